@@ -1,0 +1,5 @@
+pub mod Runs
+pub mod Midway
+pub mod Tables
+pub mod Mirrored
+pub mod Padding

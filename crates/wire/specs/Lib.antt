@@ -1,0 +1,5 @@
+pub mod Answers
+pub mod Machine
+pub mod Causality
+pub mod Mirror
+pub mod Noted

@@ -1,0 +1,6 @@
+// What a wire carries, and what hangs on it.
+pub mod calls;
+pub mod event;
+pub mod line;
+pub mod mirror;
+pub mod recorder;
