@@ -3,3 +3,4 @@ pub mod Midway
 pub mod Tables
 pub mod Mirrored
 pub mod Padding
+pub mod States

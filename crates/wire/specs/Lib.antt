@@ -1,5 +1,6 @@
 pub mod Answers
 pub mod Machine
 pub mod Causality
+pub mod ByteLists
 pub mod Mirror
 pub mod Noted

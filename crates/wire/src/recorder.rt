@@ -1,6 +1,6 @@
 // A line that wraps a line: it answers as that one does, and keeps a list of the events that passed.
 ghost use mathlib.Core.Path.{_≡_};
-ghost use mathlib.Core.Bool.{true, false};
+ghost use mathlib.Core.Bool.{true, false, not};
 ghost use mathlib.Core.List.{[], _∷_, _++_};
 ghost use Rattle.std.specs.Of.Vec.{vec-items};
 ghost use Rattle.wire.specs.declared.event.Event.the-variants.{Both, Out, In};
@@ -35,10 +35,11 @@ impl<L> Recorder<L> {
         self.events.as_slice()
     }
 
-    pub fn missed(&self) -> bool
-        ensures value { λ r. ⌜ r ≡ now (self .entry) .missed ⌝ }
+    // Whether no event has found the memory full.
+    pub fn complete(&self) -> bool
+        ensures value { λ r. ⌜ r ≡ not (now (self .entry) .missed) ⌝ }
     {
-        self.missed
+        !self.missed
     }
 
     pub fn line(&self) -> &L
