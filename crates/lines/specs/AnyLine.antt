@@ -9,8 +9,8 @@ use Rattle.lines.specs.declared.any.AnyLine.{AnyLine}
 use Rattle.lines.specs.declared.any.AnyLine.the-variants.{Relay, Script, Board}
 use Rattle.lines.specs.Relay.{chain, chain-bytes, held}
 use Rattle.lines.specs.Script.{script, script-bytes}
-use Rattle.lines.specs.Board.{pump}
-use Rattle.lines.specs.BoardBytes.{pump-bytes}
+use Rattle.board.specs.Board.{pump}
+use Rattle.board.specs.BoardBytes.{pump-bytes}
 
 abbrev pub any-answers : AnyLine → Answers
 any-answers (Relay c) = run chain (held (c .cells))

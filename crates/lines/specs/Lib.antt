@@ -1,5 +1,3 @@
 pub mod Relay
 pub mod Script
-pub mod Board
-pub mod BoardBytes
 pub mod AnyLine

@@ -39,8 +39,8 @@ shifted-bytes bs b all h = bytes-drop 1 (bs ++ b ∷ []) (bytes-append bs (b ∷
 
 pub chain-bytes : Bytewise chain Bytes
 chain-bytes = record { ready = λ bs all. all 0; next = next } where
-    next : (bs : List ℕ) (e : Event) → Bytes bs → sent e < 256 → Bytes (passed bs e)
-    next bs (Both b) all h = shifted-bytes bs b all h
-    next bs (Out b) all h = shifted-bytes bs b all h
-    next bs In all h = shifted-bytes bs 0 all h
-    next bs (Head x) all h = all
+  next : (bs : List ℕ) (e : Event) → Bytes bs → sent e < 256 → Bytes (passed bs e)
+  next bs (Both b) all h = shifted-bytes bs b all h
+  next bs (Out b) all h = shifted-bytes bs b all h
+  next bs In all h = shifted-bytes bs 0 all h
+  next bs (Head x) all h = all

@@ -1,11 +1,11 @@
 // A line of any of the three kinds.
 ghost use Rattle.lines.specs.AnyLine.{any-answers, any-causal};
-use crate::board::PumpBoard;
-use crate::board::PumpBoardLine;
+use crate::owned::OwnedScript;
+use crate::owned::OwnedScriptLine;
 use crate::relay::RelayChain;
 use crate::relay::RelayChainLine;
-use crate::script::OwnedScript;
-use crate::script::OwnedScriptLine;
+use board::pump::PumpBoard;
+use board::pump::PumpBoardLine;
 use wire::event::Head;
 use wire::line::Line;
 

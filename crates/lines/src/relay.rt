@@ -36,7 +36,12 @@ impl RelayChain {
     pub fn new(len: usize) -> RelayChain
         ensures held { λ r. ⌜ held (r .cells) ≡ replicate (max 1 (min len 16)) 0 ⌝ }
     {
-        RelayChain { cells: Cells { bytes: [0; 16], first: MOST - len.clamp(1, MOST) } }
+        RelayChain {
+            cells: Cells {
+                bytes: [0; 16],
+                first: MOST - len.clamp(1, MOST),
+            },
+        }
     }
 
     // A chain that holds these bytes, the oldest first; none where they are not 1 to 16.
@@ -51,7 +56,12 @@ impl RelayChain {
         let first = MOST - len;
         let mut cells = [0; 16];
         cells[first..].copy_from_slice(bytes);
-        Some(RelayChain { cells: Cells { bytes: cells, first } })
+        Some(RelayChain {
+            cells: Cells {
+                bytes: cells,
+                first,
+            },
+        })
     }
 
     // The bytes held, the oldest first.

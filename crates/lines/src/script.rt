@@ -4,7 +4,6 @@ ghost use denote.Ref.{now};
 ghost use mathlib.Core.List.{[], _∷_};
 ghost use Prim.Native.Nat.{_≤_, min};
 ghost use lib.ListN.{length, drop};
-ghost use Rattle.std.specs.Of.Vec.{vec-items, vec-len};
 ghost use Rattle.wire.specs.declared.event.Event.the-variants.{Both};
 ghost use Rattle.wire.specs.Answers.{Bytes, Ran};
 ghost use Rattle.wire.specs.ByteLists.{bytes-drop};
@@ -35,7 +34,10 @@ impl<'a> Script<'a> {
         ensures bytes { λ r. ⌜ now (r .bytes) ≡ now (bytes .entry) ⌝ }
         ensures at { λ r. ⌜ r .at ≡ min at (length (now (bytes .entry))) ⌝ }
     {
-        Script { bytes, at: at.min(bytes.len()) }
+        Script {
+            bytes,
+            at: at.min(bytes.len()),
+        }
     }
 
     // The answers still to come before the end.
@@ -46,7 +48,7 @@ impl<'a> Script<'a> {
     }
 
     // How many answers are gone.
-    fn position(&self) -> usize
+    pub(crate) fn position(&self) -> usize
         ensures value { λ r. ⌜ r ≡ now (self .entry) .at ⌝ }
     {
         self.at
@@ -69,53 +71,6 @@ pub impl<'a> Line for Script<'a> as ScriptLine {
             }
             None => 0xFF,
         }
-    }
-
-    fn out(&mut self, _b: u8) {}
-
-    fn receive(&mut self) -> u8 {
-        self.both(0x00)
-    }
-
-    fn head(&mut self, _h: Head) {}
-}
-
-// A script that owns its bytes: each event goes to a `Script` that is lent them.
-#[derive(Drop)]
-pub struct OwnedScript {
-    bytes: Vec<u8>,
-    at: usize,
-    ghost within: { at ≤ vec-len bytes },
-    ghost ok: { Bytes (vec-items bytes) },
-}
-
-impl OwnedScript {
-    pub fn new(bytes: Vec<u8>) -> OwnedScript
-        ensures bytes { λ r. ⌜ vec-items (r .bytes) ≡ vec-items bytes ⌝ }
-        ensures at { λ r. ⌜ r .at ≡ 0 ⌝ }
-    {
-        let at = Script::new(bytes.as_slice()).position();
-        OwnedScript { bytes, at }
-    }
-
-    // The answers still to come before the end.
-    pub fn rest(&self) -> &[u8]
-        ensures value { λ r. ⌜ now r ≡ drop (now (self .entry) .at) (vec-items (now (self .entry) .bytes)) ⌝ }
-    {
-        &self.bytes.as_slice()[self.at..]
-    }
-}
-
-pub impl Line for OwnedScript as OwnedScriptLine {
-    ghost answers = { λ s. run script (drop (s .at) (vec-items (s .bytes))) };
-
-    ghost causal = { λ s. run-causal script script-bytes (drop (s .at) (vec-items (s .bytes))) (bytes-drop (s .at) (vec-items (s .bytes)) (s .ok)) };
-
-    fn both(&mut self, b: u8) -> u8 {
-        let mut script = Script::resuming(self.bytes.as_slice(), self.at);
-        let answer = script.both(b);
-        self.at = script.position();
-        answer
     }
 
     fn out(&mut self, _b: u8) {}

@@ -42,9 +42,9 @@ module _ (ws xs : List ℕ) (same : (k : ℕ) → k < length xs → getD xs k 0 
       let rest = drop (min n (length ws)) ws in
       ext-getD 0 (xs ++ rest) (padded ws n) (simp (length-append, length-drop, length-replicate) (omega arith))
       (λ k _. ⊎-elim (λ lt. getD-append-left xs rest 0 k lt ∙ same k lt)
-          (λ le. getD-append-right xs rest n k 0 refl le ∙ getD-drop (min n (length ws)) ws (k - n) 0 ∙ past-places ws n k le)
-          (cases-lt k n)
-          ∙ sym (getD-padded ws n k))
+      (λ le. getD-append-right xs rest n k 0 refl le ∙ getD-drop (min n (length ws)) ws (k - n) 0 ∙ past-places ws n k le)
+      (cases-lt k n)
+      ∙ sym (getD-padded ws n k))
 
   -- the places in one run, what was not placed in another
   pub two-buffers : {a b c : Answers} {got : List ℕ} → Causal a → Ran a (map Both xs) got b → c ≡ after b (map Both (drop (min (length xs) (length ws)) ws)) → (got ≡ take (length xs) (a (map Both (padded ws (length xs))))) × (c ≡ after a (map Both (padded ws (length xs))))
@@ -52,8 +52,7 @@ module _ (ws xs : List ℕ) (same : (k : ℕ) → k < length xs → getD xs k 0 
       let n = length xs in
       let rest = drop (min n (length ws)) ws in
       let es : map Both xs ++ map Both rest ≡ map Both (padded ws n) = sym (map-append Both xs rest) ∙ ap (map Both) all-sent in
-      let e : length got ≡ n = ap length (sym (ran .gave)) ∙ causal .count (map Both xs) ∙ replies-boths xs in
-      (
+      let e : length got ≡ n = ap length (sym (ran .gave)) ∙ causal .count (map Both xs) ∙ replies-boths xs in (
         sym (take-at got (b (map Both rest)) n e) ∙ ap (take n) (sym (goes ran causal (map Both rest)) ∙ ap a es),
         left ∙ leads ran (map Both rest) ∙ ap (after a) es,
       )

@@ -25,7 +25,11 @@ impl<L> Recorder<L> {
         ensures events { λ r. ⌜ vec-items (r .events) ≡ [] ⌝ }
         ensures missed { λ r. ⌜ r .missed ≡ false ⌝ }
     {
-        Recorder { line, events: Vec::new(heap), missed: false }
+        Recorder {
+            line,
+            events: Vec::new(heap),
+            missed: false,
+        }
     }
 
     // What passed since the making or the last `clear`.

@@ -14,10 +14,10 @@ loop-i-again c =
     let i = c .loop-i .i in
     let b = c .if-i-bytes .buf in
     let right : b ≡ getD (c .args .bytes .now) i 0 =
-        elim (c .if-i-bytes .came) [
-          | then-i-bytes w ↦ w .buf-is
-          | else-i-bytes w ↦ w .buf-is ∙ sym (getD-past (c .args .bytes .now) i 0 (w .if-i-bytes .left))
-        ] in
+    elim (c .if-i-bytes .came) [
+      | then-i-bytes w ↦ w .buf-is
+      | else-i-bytes w ↦ w .buf-is ∙ sym (getD-past (c .args .bytes .now) i 0 (w .if-i-bytes .left))
+    ] in
     below-more _ i
     (λ k h. let ne : k ≢ i = omega arith in getD-set-other (c .loop-i .buf) i k b 0 ne ∙ c .loop-i .inv k h)
     (getD-set-same (c .loop-i .buf) i b 0 (omega arith) ∙ right)

@@ -12,7 +12,6 @@ use Rattle.wire.specs.ByteLists.{bytes-append, bytes-replicate, bytes-take}
 use Rattle.lines.proofs.Chains.{filled-end}
 use Rattle.lines.proofs.relay.RelayChain.holding.Needs as need
 
-
 -- the cells hold zeros and then the bytes
 module _ (bs ys : List ℕ) (le : length bs ≤ 16) (same : ys ≡ bs) where
   abbrev first : ℕ

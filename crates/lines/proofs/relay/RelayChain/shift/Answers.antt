@@ -12,10 +12,13 @@ pub ghost-self : need.ghost-self
 ghost-self c =
     let s = c .args .self .now in
     let xs = s .cells .bytes in
-    let h : c .args .b < 256 = search needs in
-    (simp length-set (omega arith), (
-    rw (c .rotate-left .ensures .after) (all-set (λ x. x < 256) 0 _ 15 (c .args .b) (bytes-append (drop 1 xs) (take 1 xs) (bytes-drop 1 xs (s .bytes)) (bytes-take 1 xs (s .bytes))) h),
-    tt))
+    let h : c .args .b < 256 = search needs in (
+      simp length-set (omega arith),
+      (
+        rw (c .rotate-left .ensures .after) (all-set (λ x. x < 256) 0 _ 15 (c .args .b) (bytes-append (drop 1 xs) (take 1 xs) (bytes-drop 1 xs (s .bytes)) (bytes-take 1 xs (s .bytes))) h),
+        tt,
+      ),
+    )
 
 pub returns : need.returns
 returns c =

@@ -1,0 +1,5 @@
+pub mod Calls
+pub mod Steps
+pub mod Lines
+pub mod Names
+pub mod Options

@@ -1,0 +1,2 @@
+// A pump board as a line.
+pub mod pump;

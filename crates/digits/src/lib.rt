@@ -1,0 +1,2 @@
+// Numbers and bytes, as words write them.
+pub mod digits;

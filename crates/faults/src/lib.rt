@@ -1,0 +1,2 @@
+// What is wrong with a scenario.
+pub mod fault;

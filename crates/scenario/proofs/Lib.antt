@@ -1,0 +1,4 @@
+pub mod Ends
+pub mod Turns
+pub mod Tellings
+pub mod Refusals

@@ -1,0 +1,6 @@
+pub mod Statements
+pub mod Models
+pub mod Scenarios
+pub mod Wholes
+pub mod Tales
+pub mod Wrongs

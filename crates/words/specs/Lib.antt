@@ -1,0 +1,3 @@
+pub mod Words
+pub mod Arities
+pub mod Values

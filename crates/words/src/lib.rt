@@ -1,0 +1,3 @@
+// The words of a line, and what they stand for.
+pub mod values;
+pub mod words;
