@@ -10,7 +10,7 @@ use lines::owned::OwnedScript;
 use lines::relay::RelayChain;
 use scenario::statement::LineSetup;
 
-// None where no line can be set up so; a scenario that was read has no such set-up.
+// None where no line can be set up so.
 pub fn hang(setup: LineSetup) -> Option<AnyLine>
     ensures test { λ r. ⌜ isSome r ≡ possible (lineModel setup) ⌝ }
     ensures line { λ r. ⌜ Cases r (Unit {0}) (λ l. any-answers l ≡ at-first (lineModel setup)) ⌝ }
