@@ -2,6 +2,5 @@
 pub mod options;
 pub mod perform;
 pub mod setup;
-pub mod show;
 pub mod step;
 pub mod totals;

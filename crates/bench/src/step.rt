@@ -4,11 +4,11 @@ ghost use Rattle.std.specs.Of.Vec.{vec-items};
 ghost use Rattle.std.specs.Results.{Cases};
 ghost use Rattle.scenario.specs.Models.{callModel};
 ghost use Rattle.bench.specs.Calls.{Performed};
-ghost use Rattle.bench.specs.Steps.{Tells};
+ghost use Rattle.bench.specs.Steps.{Tells, accepted};
 use crate::perform::perform;
-use clock::clocking::Clocking;
-use clock::clocking::ask_clock;
 use clock::error::ConfigError;
+use config::clocking::Clocking;
+use config::clocking::ask_clock;
 use scenario::statement::Call;
 use scenario::whole::Step;
 use std::alloc::AllocError;
@@ -33,4 +33,14 @@ pub fn take_step<L: Line>(heap: Global, line: &mut L, step: &Step) -> Result<Out
         _ => None,
     };
     Ok(Outcome { buffer, clock })
+}
+
+// Whether a call was accepted: only a question for a clock word can be refused.
+pub fn is_accepted(outcome: &Outcome) -> bool
+    ensures value { λ r. ⌜ r ≡ accepted (now (outcome .entry) .clock) ⌝ }
+{
+    match &outcome.clock {
+        Some(Err(_)) => false,
+        _ => true,
+    }
 }

@@ -10,7 +10,7 @@ use crate::error::ConfigError;
 const DIRECT: u32 = 0x8000_0000;
 
 // Above three quarters of the source rate, no divider is used.
-pub(crate) fn is_direct(source: u32, frequency: u32) -> bool
+pub fn is_direct(source: u32, frequency: u32) -> bool
     ensures { λ r. ⌜ r ≡ direct source frequency ⌝ }
 {
     frequency > source / 4 * 3

@@ -18,7 +18,7 @@ use Rattle.scenario.specs.declared.statement.LineKind as kinds
 use Rattle.scenario.specs.declared.statement.LineKind.the-variants.{Relay, Script, Board}
 use Rattle.words.specs.Arities.{none, one, two, oneOrTwo, noneOrFour}
 use Rattle.faults.specs.Readings.{Reading, okMap, readThen, wanted}
-use Rattle.words.specs.Values.{bytesOf, countOf, exactly, numberOf, slotOf}
+use Rattle.values.specs.Values.{bytesOf, countOf, exactly, numberOf, slotOf}
 
 pub data Line : Type 0 where
   relay : List ℕ → Line

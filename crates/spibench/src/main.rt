@@ -1,15 +1,7 @@
 // Reads a scenario, performs it on the bench, and prints what happened.
 use bench::options::Options;
 use bench::setup::hang;
-use bench::show::CallText;
-use bench::show::CallTextDisplay;
-use bench::show::EventsText;
-use bench::show::EventsTextDisplay;
-use bench::show::LineText;
-use bench::show::LineTextDisplay;
-use bench::show::TotalsDisplay;
-use bench::show::call_name;
-use bench::show::is_accepted;
+use bench::step::is_accepted;
 use bench::step::take_step;
 use bench::totals::Totals;
 use faults::fault::FaultDisplay;
@@ -18,6 +10,15 @@ use lines::any::AnyLineLine;
 use scenario::whole::Scenario;
 use scenario::whole::Step;
 use scenario::whole::read_scenario;
+use show::CallText;
+use show::CallTextDisplay;
+use show::EventsText;
+use show::EventsTextDisplay;
+use show::LineText;
+use show::LineTextDisplay;
+use show::TotalsText;
+use show::TotalsTextDisplay;
+use show::call_name;
 use std::env;
 use std::error::AnyError;
 use std::fs;
@@ -88,7 +89,8 @@ fn perform(rt: &LibcRuntime, state: bool, scenario: Scenario) -> Result<(), AnyE
         line: wire.line(),
         indent: "",
     };
-    println!(rt, "{text}\n{totals}")?;
+    let counts = TotalsText(totals);
+    println!(rt, "{text}\n{counts}")?;
     Ok(())
 }
 

@@ -2,5 +2,4 @@
 pub mod calls;
 pub mod event;
 pub mod line;
-pub mod mirror;
 pub mod recorder;

@@ -1,3 +1,2 @@
 // The words of a line, and what they stand for.
-pub mod values;
 pub mod words;

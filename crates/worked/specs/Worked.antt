@@ -6,7 +6,7 @@ use Prim.Native.Nat.{ℕ}
 use Rattle.clock.specs.declared.error.ConfigError.the-variants.{FrequencyOutOfRange}
 use Rattle.clock.specs.Clock.{accepts, number, wordOf}
 use Rattle.clock.specs.Dividers.{divisions}
-use Rattle.wire.specs.Mirror.{mirror}
+use Rattle.mirror.specs.Mirror.{mirror}
 
 abbrev pub source : ℕ
 source = 80000000

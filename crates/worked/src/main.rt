@@ -2,10 +2,10 @@
 ghost use mathlib.Core.Path.{_≡_};
 ghost use lib.ListN.{length};
 ghost use Rattle.worked.specs.Worked.{Worked, examples};
-use clock::clocking::Clocking;
-use clock::clocking::ask_clock;
+use config::clocking::Clocking;
+use config::clocking::ask_clock;
+use mirror::mirrored;
 use std::io;
-use wire::mirror::mirrored;
 
 const SOURCE: u32 = 80_000_000;
 

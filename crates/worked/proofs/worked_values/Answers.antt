@@ -1,6 +1,6 @@
 use mathlib.Core.Path.{refl}
 use Rattle.clock.specs.Dividers.{divisions}
-use Rattle.wire.specs.Mirror.{mirror}
+use Rattle.mirror.specs.Mirror.{mirror}
 use Rattle.worked.proofs.worked_values.Needs as need
 
 pub returns : need.returns
