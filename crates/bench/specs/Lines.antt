@@ -5,7 +5,7 @@ use lib.Dec.{leb}
 use lib.ListN.{length}
 use Rattle.wire.specs.Answers.{Answers}
 use Rattle.wire.specs.Machine.{run}
-use Rattle.lines.specs.Relay.{chain}
+use Rattle.relay.specs.Relay.{chain}
 use Rattle.lines.specs.Script.{script}
 use Rattle.board.specs.Board.{one-of-eight, pump, rows}
 use Rattle.scenario.specs.Statements.{Line}

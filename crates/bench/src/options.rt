@@ -24,7 +24,7 @@ pub struct Options {
 }
 
 // The words are not `[--state] [FILE]`.
-#[derive(Clone, Copy, Debug)]
+#[derive(Clone, Copy)]
 pub struct Usage;
 
 // 0 where there is none.

@@ -7,7 +7,7 @@ ghost use Rattle.bench.specs.Lines.{at-first, possible};
 use board::pump::PumpBoard;
 use lines::any::AnyLine;
 use lines::owned::OwnedScript;
-use lines::relay::RelayChain;
+use relay::RelayChain;
 use scenario::statement::LineSetup;
 
 // None where no line can be set up so.

@@ -14,7 +14,7 @@ use wire::event::Head;
 use wire::line::Line;
 
 // 0 stands for nobody.
-#[derive(Clone, Copy, PartialEq, Eq, Debug)]
+#[derive(Clone, Copy)]
 pub struct Slot {
     pub holder: u8,
     pub previous: u8,

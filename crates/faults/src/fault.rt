@@ -7,7 +7,7 @@ use std::alloc::AllocError;
 use std::alloc::Refused;
 use std::fmt;
 
-#[derive(Clone, Copy, Debug, PartialEq)]
+#[derive(Clone, Copy)]
 pub enum Expected {
     Name,
     LineKind,
@@ -30,7 +30,7 @@ pub enum Refusal {
 }
 
 // Lines count from 1.
-#[derive(Clone, Copy, Debug, PartialEq)]
+#[derive(Clone, Copy)]
 pub enum Fault {
     Bad { line: usize, expected: Expected },
     Memory,

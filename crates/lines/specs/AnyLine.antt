@@ -7,7 +7,7 @@ use Rattle.wire.specs.Causality.{run-causal}
 use Rattle.wire.specs.Machine.{run}
 use Rattle.lines.specs.declared.any.AnyLine.{AnyLine}
 use Rattle.lines.specs.declared.any.AnyLine.the-variants.{Relay, Script, Board}
-use Rattle.lines.specs.Relay.{chain, chain-bytes, held}
+use Rattle.relay.specs.Relay.{chain, chain-bytes, held}
 use Rattle.lines.specs.Script.{script, script-bytes}
 use Rattle.board.specs.Board.{pump}
 use Rattle.board.specs.BoardBytes.{pump-bytes}

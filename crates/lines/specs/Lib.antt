@@ -1,3 +1,2 @@
-pub mod Relay
 pub mod Script
 pub mod AnyLine

@@ -2,10 +2,10 @@
 ghost use Rattle.lines.specs.AnyLine.{any-answers, any-causal};
 use crate::owned::OwnedScript;
 use crate::owned::OwnedScriptLine;
-use crate::relay::RelayChain;
-use crate::relay::RelayChainLine;
 use board::pump::PumpBoard;
 use board::pump::PumpBoardLine;
+use relay::RelayChain;
+use relay::RelayChainLine;
 use wire::event::Head;
 use wire::line::Line;
 

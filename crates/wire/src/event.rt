@@ -1,7 +1,7 @@
 // What a wire carries.
 
 // What goes before the data of a half-duplex call; an absent part has width 0 and value 0.
-#[derive(Clone, Copy, PartialEq, Eq, Debug)]
+#[derive(Clone, Copy)]
 pub struct Head {
     pub command_width: u32,
     pub command_value: u32,
@@ -10,7 +10,7 @@ pub struct Head {
     pub dummy_cycles: u32,
 }
 
-#[derive(Clone, Copy, PartialEq, Eq, Debug)]
+#[derive(Clone, Copy)]
 pub enum Event {
     // sends a byte and receives one
     Both(u8),

@@ -9,8 +9,8 @@ use lib.ListN.{drop, length, replicate, take}
 use Rattle.std.proofs.shelf.Lists.{drop-at, getD-replicate, length-append, length-replicate, length-take-le}
 use Rattle.wire.specs.Answers.{Bytes}
 use Rattle.wire.specs.ByteLists.{bytes-append, bytes-replicate, bytes-take}
-use Rattle.lines.proofs.Chains.{filled-end}
-use Rattle.lines.proofs.relay.RelayChain.holding.Needs as need
+use Rattle.relay.proofs.Chains.{filled-end}
+use Rattle.relay.proofs.RelayChain.holding.Needs as need
 
 -- the cells hold zeros and then the bytes
 module _ (bs ys : List ℕ) (le : length bs ≤ 16) (same : ys ≡ bs) where

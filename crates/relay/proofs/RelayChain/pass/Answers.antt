@@ -7,9 +7,9 @@ use Rattle.std.proofs.shelf.Lists.{length-drop}
 use Rattle.wire.specs.declared.event.Event.the-variants.{Both}
 use Rattle.wire.specs.Machine.{run}
 use Rattle.wire.proofs.States.{after-run}
-use Rattle.lines.specs.Relay.{chain, held}
-use Rattle.lines.proofs.Chains.{delayed, delays, keeps}
-use Rattle.lines.proofs.relay.RelayChain.pass.Needs as need
+use Rattle.relay.specs.Relay.{chain, held}
+use Rattle.relay.proofs.Chains.{delayed, delays, keeps}
+use Rattle.relay.proofs.RelayChain.pass.Needs as need
 
 pub returns : need.returns
 returns c =

@@ -8,7 +8,7 @@ use Rattle.wire.specs.declared.event.Event.the-variants.{Both, Out, In, Head}
 use Rattle.wire.specs.Answers.{Bytes, sent}
 use Rattle.wire.specs.Machine.{Bytewise, Machine}
 use Rattle.wire.specs.ByteLists.{bytes-append, bytes-drop, bytes-one}
-use Rattle.lines.specs.declared.relay.Cells.{Cells}
+use Rattle.relay.specs.declared.Cells.{Cells}
 
 -- the bytes stand at the end of the cells
 abbrev pub held : Cells → List ℕ

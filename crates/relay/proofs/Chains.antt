@@ -10,7 +10,7 @@ use Rattle.std.proofs.shelf.Lists.{append-assoc, append-nil, drop-all, drop-app
 use Rattle.wire.specs.declared.event.Event.the-variants.{Both}
 use Rattle.wire.specs.Machine.{run}
 use Rattle.wire.proofs.States.{led}
-use Rattle.lines.specs.Relay.{Delayed, chain, shifted}
+use Rattle.relay.specs.Relay.{Delayed, chain, shifted}
 
 -- cells turned by one, with b in the last place: their end from n on is shifted
 pub turned-end : (cells : List ℕ) (n k b : ℕ) → length cells ≡ k + 1 → n ≤ k → drop n (set (drop 1 cells ++ take 1 cells) k b) ≡ shifted (drop n cells) b

@@ -10,7 +10,7 @@ ghost use Rattle.wire.specs.Answers.{Bytes};
 ghost use Rattle.wire.specs.Machine.{run};
 ghost use Rattle.wire.specs.ByteLists.{bytes-drop};
 ghost use Rattle.wire.specs.Causality.{run-causal};
-ghost use Rattle.lines.specs.Relay.{Delayed, chain, chain-bytes, held, shifted};
+ghost use Rattle.relay.specs.Relay.{Delayed, chain, chain-bytes, held, shifted};
 use wire::calls::exchange_in_place;
 use wire::event::Head;
 use wire::line::Line;

@@ -5,8 +5,8 @@ use native.Mathlib.Omega.{arith}
 use lib.ListN.{drop, take}
 use Rattle.std.proofs.shelf.Lists.{length-set, places}
 use Rattle.wire.specs.ByteLists.{all-set, bytes-append, bytes-drop, bytes-take}
-use Rattle.lines.proofs.Chains.{turned-end}
-use Rattle.lines.proofs.relay.RelayChain.shift.Needs as need
+use Rattle.relay.proofs.Chains.{turned-end}
+use Rattle.relay.proofs.RelayChain.shift.Needs as need
 
 pub ghost-self : need.ghost-self
 ghost-self c =
