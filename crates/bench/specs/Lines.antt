@@ -1,5 +1,5 @@
 -- The line that a set-up asks for.
-use Rattle.std.specs.Prelude.{ℕ, Bool, true, ◌&&◌, length, nat_le}
+use Rattle.std.specs.Prelude.{Bool, true, ◌&&◌, length, nat_le}
 use Rattle.wire.specs.Answers.{Answers}
 use Rattle.wire.specs.Machine.{run}
 use Rattle.relay.specs.Relay.{chain}

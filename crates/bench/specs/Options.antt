@@ -1,5 +1,5 @@
 -- What the words after the program's name mean.
-use Rattle.std.specs.Prelude.{ℕ, Bool, true, false, cond, not, List, [], ◌∷◌, codes, ◌==◌, slice_index}
+use Rattle.std.specs.Prelude.{ℕ, Bool, true, false, cond, not, List, codes, ◌==◌, slice_index}
 use Rattle.std.specs.Str.{bytes_eq}
 use Rattle.bench.specs.declared.options.Sort as sorts
 use Rattle.bench.specs.declared.options.Sort.TheVariants.{State, File, Unknown}

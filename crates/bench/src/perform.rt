@@ -10,10 +10,10 @@ use wire::calls::{exchange_in_place, read, send, transfer};
 use wire::line::Line;
 
 // What a place to read holds before the call.
-pub const BLANK: u8 = 0xAA;
+const BLANK: u8 = 0xAA;
 
 fn bus_read<L: Line>(heap: Global, line: &mut L, n: usize) -> Result<Vec<u8>, AllocError>
-    ensures done { MatchResult result (λ v. Performed (bus_read n) (answers line.old) v.items (answers line.new)) (λ _. answers line.new ≡ answers line.old) }
+    ensures done { MatchResult result (λ v. Performed (bus_read n) (L.answers line.old) v.items (L.answers line.new)) (λ _. L.answers line.new ≡ L.answers line.old) }
 {
     let mut buf = vec![in heap; BLANK; n]?;
     read(line, buf.as_mut_slice());
@@ -26,7 +26,7 @@ fn bus_transfer<L: Line>(
     n: usize,
     bytes: &[u8],
 ) -> Result<Vec<u8>, AllocError>
-    ensures done { MatchResult result (λ v. Performed (bus_transfer n bytes.now) (answers line.old) v.items (answers line.new)) (λ _. answers line.new ≡ answers line.old) }
+    ensures done { MatchResult result (λ v. Performed (bus_transfer n bytes.now) (L.answers line.old) v.items (L.answers line.new)) (λ _. L.answers line.new ≡ L.answers line.old) }
 {
     let mut buf = vec![in heap; BLANK; n]?;
     transfer(line, buf.as_mut_slice(), bytes);
@@ -38,7 +38,7 @@ fn transfer_in_place<L: Line>(
     line: &mut L,
     bytes: &[u8],
 ) -> Result<Vec<u8>, AllocError>
-    ensures done { MatchResult result (λ v. Performed (transfer_in_place bytes.now) (answers line.old) v.items (answers line.new)) (λ _. answers line.new ≡ answers line.old) }
+    ensures done { MatchResult result (λ v. Performed (transfer_in_place bytes.now) (L.answers line.old) v.items (L.answers line.new)) (λ _. L.answers line.new ≡ L.answers line.old) }
 {
     let mut buf = bytes.to_vec(heap)?;
     exchange_in_place(line, buf.as_mut_slice());
@@ -47,7 +47,7 @@ fn transfer_in_place<L: Line>(
 
 // The places of a call, as they are after it. Where there is no memory for them, nothing is sent.
 pub fn perform<L: Line>(heap: Global, line: &mut L, call: &Call) -> Result<Vec<u8>, AllocError>
-    ensures done { MatchResult result (λ v. Performed (call_model call.now) (answers line.old) v.items (answers line.new)) (λ _. answers line.new ≡ answers line.old) }
+    ensures done { MatchResult result (λ v. Performed (call_model call.now) (L.answers line.old) v.items (L.answers line.new)) (λ _. L.answers line.new ≡ L.answers line.old) }
 {
     match call {
         Call::BusWrite(bytes) => {

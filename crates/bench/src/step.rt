@@ -21,24 +21,15 @@ pub struct Outcome {
 
 // Where there is no memory for the places, nothing is sent.
 pub fn take_step<L: Line>(heap: Global, line: &mut L, step: &Step) -> Result<Outcome, AllocError>
-    ensures done { MatchResult result (λ o. Performed (call_model step.now.call) (answers line.old) o.buffer.items (answers line.new)) (λ _. answers line.new ≡ answers line.old) }
+    ensures done { MatchResult result (λ o. Performed (call_model step.now.call) (L.answers line.old) o.buffer.items (L.answers line.new)) (λ _. L.answers line.new ≡ L.answers line.old) }
     ensures tells { IfOk result (λ o. Tells step.now.source (call_model step.now.call) o.clock) }
 {
     let buffer = perform(heap, line, &step.call)?;
-    Ok(Outcome {
-        buffer,
-        clock: ask(step),
-    })
-}
-
-// The answer where the step asks for a clock word.
-pub fn ask(step: &Step) -> Option<Result<Clocking, ConfigError>>
-    ensures tells { Tells step.now.source (call_model step.now.call) result }
-{
-    match &step.call {
+    let clock = match &step.call {
         Call::Clock(frequency) => Some(ask_clock(step.source, *frequency)),
         _ => None,
-    }
+    };
+    Ok(Outcome { buffer, clock })
 }
 
 // Whether a call was accepted: only a question for a clock word can be refused.

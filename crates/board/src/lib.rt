@@ -1,2 +1,5 @@
 // A pump board as a line.
+
+#![tactic(auto)]
+
 pub mod pump;

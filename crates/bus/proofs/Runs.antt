@@ -1,5 +1,5 @@
 -- One run of a bus after another.
-use Rattle.std.proofs.Common.{◌≡◌, ℕ, ◌+◌, List, ◌++◌, length, take, drop, sym, ap, ◌∙◌}
+use Rattle.std.proofs.Common.{◌≡◌, ℕ, List, ◌++◌, length, take, sym, ap, ◌∙◌}
 use mathlib.Core.Path.{fun_ext}
 use Rattle.std.proofs.lemmas.List.{append_assoc, drop-drop, length-append, take-append-drop, take_at}
 use Rattle.bus.specs.Answers.{Answers, Causal, Ran, after}

@@ -1,6 +1,6 @@
 -- A line driven by Boths, as a bus. Cited where a bare line says what it means.
 use Rattle.std.proofs.Common.{◌∙◌}
-use Rattle.std.specs.Prelude.{map, take}
+use Rattle.std.specs.Prelude.{map}
 use Rattle.std.proofs.lemmas.List.{map-append}
 use Rattle.wire.specs.declared.event.Event.TheVariants.{Both}
 use Rattle.wire.specs.Answers as line

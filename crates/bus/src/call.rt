@@ -18,9 +18,9 @@ pub enum BusCall {
 
 // One call, on any bus.
 pub fn perform<B: SpiBus>(bus: &mut B, call: &mut BusCall)
-    ensures answered { call_of call.new ≡ answered (call_of call.old) (answers bus.old (sent (call_of call.old))) }
-    ensures left { answers bus.new ≡ after (answers bus.old) (sent (call_of call.old)) }
-    ensures rests { call_of call.old ≡ flush → idle bus.new ≡ true }
+    ensures answered { call_of call.new ≡ answered (call_of call.old) (B.answers bus.old (sent (call_of call.old))) }
+    ensures left { B.answers bus.new ≡ after (B.answers bus.old) (sent (call_of call.old)) }
+    ensures rests { call_of call.old ≡ flush → B.idle bus.new ≡ true }
 {
     match call {
         BusCall::Write(words) => bus.write(words.as_slice()),

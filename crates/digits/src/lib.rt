@@ -1,2 +1,5 @@
 // Numbers and bytes, as words write them.
+
+#![tactic(auto)]
+
 pub mod digits;

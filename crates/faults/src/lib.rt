@@ -1,2 +1,5 @@
 // What is wrong with a scenario.
+
+#![tactic(auto)]
+
 pub mod fault;

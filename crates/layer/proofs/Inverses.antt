@@ -1,5 +1,5 @@
 -- The inverter's rule, at every byte.
-use Rattle.std.proofs.Common.{◌≡◌, ℕ, ◌-◌, ◌<◌, List, map, refl, arith}
+use Rattle.std.proofs.Common.{ℕ, ◌-◌, ◌<◌, List, map, refl, arith}
 use Rattle.std.specs.List.{range_with_len}
 use Rattle.mirror.specs.Mirror.{bit}
 use Rattle.mirror.proofs.Tables.{by_table}

@@ -1,6 +1,6 @@
 -- What a layer answers is what a bus can answer. Cited where a layer says what it means.
-use Rattle.std.specs.Prelude.{◌≡◌, ℕ, zero, suc, ◌<◌, List, [], ◌∷◌, ◌++◌, map, length, take}
-use Rattle.std.proofs.Common.{ap, sym, ◌∙◌, lit<}
+use Rattle.std.specs.Prelude.{ℕ, zero, suc, List, [], ◌∷◌, map}
+use Rattle.std.proofs.Common.{ap, ◌∙◌, lit<}
 use Rattle.std.proofs.lemmas.List.{length-map, map-append, take-map}
 use Rattle.wire.specs.Answers.{Bytes}
 use Rattle.bus.specs.Answers.{Answers, Causal}

@@ -1,5 +1,5 @@
 -- The changes of a byte that undo themselves, and what a layer makes of the answers below.
-use Rattle.std.specs.Prelude.{◌≡◌, ℕ, ◌-◌, ◌<◌, cond, List, map, nat_lt}
+use Rattle.std.specs.Prelude.{◌≡◌, ℕ, ◌-◌, ◌<◌, cond, map, nat_lt}
 use Rattle.mirror.specs.Mirror.{bit}
 use Rattle.mirror.specs.Mirror as bits
 use Rattle.bus.specs.Answers.{Answers}

@@ -1,10 +1,8 @@
 -- Each change undoes itself, at every number, and takes bytes to bytes. Cited where a change says what it means.
-use Rattle.std.specs.Prelude.{◌≡◌, ℕ, ◌-◌, ◌<◌, ◌≤◌, true, map, refl}
+use Rattle.std.specs.Prelude.{◌≡◌, ℕ, ◌-◌, ◌<◌, ◌≤◌}
 use Rattle.std.proofs.Common.{ap, ◌∙◌, ⊎_elim, arith}
-use Rattle.std.specs.List.{range_with_len}
 use Rattle.std.proofs.lemmas.Bool.{cases_lt, le-ltb, lt-ltb}
 use Rattle.mirror.proofs.Bits.{mirror_mirrors, mirror_twice}
-use Rattle.mirror.proofs.Tables.{by_table}
 use Rattle.layer.specs.Kinds.{Kind, change, invert, inverter, mirror}
 
 pub invert_byte : (x : ℕ) → x < 256 → invert x ≡ 255 - x

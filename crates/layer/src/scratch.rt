@@ -19,7 +19,7 @@ pub(crate) fn changed_piece<C: Change>(by: &C, piece: &[u8]) -> Scratch
     requires { length piece.now ≤ 64 }
     ensures len { result.len ≡ length piece.now }
     ensures room { length result.bytes ≡ 64 }
-    ensures bytes { take result.len result.bytes ≡ map (change kind) piece.now }
+    ensures bytes { take result.len result.bytes ≡ map (change C.kind) piece.now }
 {
     let mut scratch = Scratch {
         bytes: [0; 64],
@@ -34,7 +34,7 @@ pub(crate) fn changed_piece<C: Change>(by: &C, piece: &[u8]) -> Scratch
 // Writes as many bytes of `from` as the piece has places, each changed, to their places.
 pub(crate) fn hand_back<C: Change>(by: &C, from: &[u8], piece: &mut [u8])
     requires { length piece.old ≤ length from.now }
-    ensures bytes { piece.new ≡ map (change kind) (take (length piece.old) from.now) }
+    ensures bytes { piece.new ≡ map (change C.kind) (take (length piece.old) from.now) }
 {
     for i in 0..piece.len() {
         piece[i] = by.changed(from[i]);

@@ -1,7 +1,6 @@
 -- A script, by the answers that are left of it.
 use Rattle.std.specs.Prelude.{ℕ, ◌<◌, List, [], ◌∷◌, drop, slice_index_or}
 use Rattle.std.proofs.Common.{lit<}
-use Rattle.wire.specs.declared.event.Event.{Event}
 use Rattle.wire.specs.Answers.{Bytes, replies}
 use Rattle.wire.specs.Machine.{Bytewise, Machine}
 use Rattle.wire.specs.ByteLists.{bytes_drop}

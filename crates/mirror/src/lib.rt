@@ -1,4 +1,7 @@
 // The mirrored byte, read from a table.
+
+#![tactic(auto)]
+
 ghost use Rattle.std.specs.Prelude.{◌≡◌};
 ghost use Rattle.mirror.specs.Mirror.{Mirrors, mirror};
 

@@ -1,5 +1,5 @@
 -- What a list of calls does to the bus beneath, and what two such lists have in common.
-use Rattle.std.proofs.Common.{◌≡◌, ℕ, List, [], sym, ap, ◌∙◌}
+use Rattle.std.proofs.Common.{◌≡◌, List, [], sym, ap, ◌∙◌}
 use Rattle.bus.specs.Answers.{Answers, after}
 use Rattle.bus.specs.Calls.{Call, answered_by, sent_by}
 use Rattle.layer.specs.Kinds.{Kind}

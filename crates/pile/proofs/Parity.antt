@@ -1,5 +1,5 @@
 -- Layers undo themselves and pass one another, so only their parity counts.
-use Rattle.std.proofs.Common.{◌≡◌, ℕ, zero, suc, ◌%◌, ◌<◌, ◌≤◌, List, [], ◌∷◌, ◌++◌, map, sym, refl, ap, ◌∙◌, ⊎_elim, map-id, arith}
+use Rattle.std.proofs.Common.{◌≡◌, ℕ, zero, suc, ◌%◌, ◌≤◌, List, [], ◌∷◌, map, sym, refl, ap, ◌∙◌, ⊎_elim, map-id, arith}
 use mathlib.Core.Path.{fun_ext}
 use mathlib.Core.List.{map-map}
 use Rattle.std.specs.List.{range_with_len}

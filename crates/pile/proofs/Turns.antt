@@ -1,5 +1,5 @@
 -- A list of calls, performed one after the other.
-use Rattle.std.proofs.Common.{◌≡◌, ℕ, ◌+◌, ◌<◌, ◌≤◌, Bool, true, List, [], ◌∷◌, ◌++◌, map, length, get_or, take, drop, set, sym, refl, ap, ◌∙◌, arith}
+use Rattle.std.proofs.Common.{◌≡◌, ℕ, ◌+◌, ◌<◌, true, List, [], ◌∷◌, ◌++◌, map, length, get_or, take, drop, set, sym, refl, ap, ◌∙◌, arith}
 use Rattle.std.proofs.lemmas.List.{append_assoc, append-nil, drop_all, drop-drop, drop-map, drop_more, drop-set-lt, get_or_at, get_or-drop, length-append, length-map, length-set, map-set, take_all, take_more_set}
 use Rattle.bus.specs.declared.call.BusCall.{BusCall}
 use Rattle.bus.specs.Answers.{Answers, Causal, after}

@@ -1,4 +1,7 @@
 // A relay chain: a shift register of 1 to 16 bytes.
+
+#![tactic(auto)]
+
 ghost use Rattle.std.specs.Prelude.{◌≡◌, ◌<◌, min, max, ◌&&◌, ◌++◌, length, take, drop, replicate, is_some, IfSome, nat_le, slice_index};
 ghost use Rattle.wire.specs.Answers.{Bytes};
 ghost use Rattle.wire.specs.Machine.{run};

@@ -1,11 +1,11 @@
 -- A text that is not read stops at its first wrong line. Assumes nothing.
-use Rattle.std.proofs.Common.{◌≡◌, ℕ, ◌+◌, List, [], ◌∷◌, length, Ok, Err, Result, sym, refl, ap, ◌∙◌, arith}
+use Rattle.std.proofs.Common.{◌≡◌, ℕ, ◌+◌, List, [], ◌∷◌, Ok, Err, Result, sym, refl, ap, ◌∙◌, arith}
 use Rattle.faults.specs.declared.fault.Expected.{Expected}
 use Rattle.faults.specs.declared.fault.Fault.{Fault}
 use Rattle.faults.specs.declared.fault.Fault.TheVariants.{Bad, Memory}
 use Rattle.scenario.specs.declared.whole.Scenario.{Scenario}
 use Rattle.faults.specs.Readings.{Reading}
-use Rattle.scenario.specs.Scenarios.{Sofar, finished, go_on, lines_from, scenario, start, with_text}
+use Rattle.scenario.specs.Scenarios.{Sofar, finished, go_on, lines_from, start, with_text}
 use Rattle.scenario.specs.Wholes.{ReadAs}
 use Rattle.words.specs.Words.{lines}
 use Rattle.scenario.specs.Wrongs.{NamesFirst, Refuses}

@@ -1,4 +1,7 @@
 // The text of a report.
+
+#![tactic(auto)]
+
 ghost use Rattle.std.specs.Prelude.{◌≡◌};
 ghost use Rattle.scenario.specs.Models.{call_model};
 ghost use Rattle.show.specs.Names.{name_of};

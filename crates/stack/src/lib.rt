@@ -1,4 +1,7 @@
 // The layers that a scenario puts on a bare line, and calls through them.
+
+#![tactic(auto)]
+
 mod depth;
 pub mod setup;
 pub mod step;

@@ -10,13 +10,17 @@ ghost use Rattle.stack.specs.Passes.{Passed, Stopped, bus_call, places_of};
 
 use crate::setup::LayerSetup;
 use crate::through::run_through;
-use bench::perform::BLANK;
-use bench::step::{Outcome, ask};
+use bench::step::Outcome;
 use bus::call::BusCall;
+use clock::error::ConfigError;
+use config::clocking::{Clocking, ask_clock};
 use scenario::statement::Call;
 use scenario::whole::Step;
 use std::alloc::{AllocError, Global};
 use wire::line::Line;
+
+// What a place to read holds before the call.
+const BLANK: u8 = 0xAA;
 
 // Why a step was not taken.
 #[derive(Clone, Copy)]
@@ -61,6 +65,16 @@ fn bus_calls(heap: Global, call: &Call) -> Result<Vec<BusCall>, AllocError>
         calls.push(call)?;
     }
     Ok(calls)
+}
+
+// The answer where the step asks for a clock word.
+fn ask(step: &Step) -> Option<Result<Clocking, ConfigError>>
+    ensures tells { Tells step.now.source (call_model step.now.call) result }
+{
+    match &step.call {
+        Call::Clock(frequency) => Some(ask_clock(step.source, *frequency)),
+        _ => None,
+    }
 }
 
 // The line is handed back, with what came of the step.

@@ -1,4 +1,7 @@
 // What a single word gives, or what was expected in its place.
+
+#![tactic(auto)]
+
 ghost use Rattle.std.specs.Prelude.{◌≡◌, [], ◌∷◌, IfOk, vec_items, vec_len};
 ghost use Rattle.faults.specs.Readings.{Reads};
 ghost use Rattle.values.specs.Values.{bytes_of, count_of, exactly, number_of, slot_of};

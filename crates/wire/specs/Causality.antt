@@ -1,9 +1,9 @@
 -- A machine that is bytewise answers as a line does. Cited where a line says what it means.
-use Rattle.std.specs.Prelude.{◌≡◌, ℕ, zero, suc, ◌<◌, List, [], ◌∷◌, ◌++◌, length, take, refl}
+use Rattle.std.specs.Prelude.{◌≡◌, zero, suc, List, [], ◌∷◌, ◌++◌, length, take, refl}
 use Rattle.std.proofs.Common.{ap, lit<}
 use Rattle.wire.specs.declared.event.Event.{Event}
 use Rattle.wire.specs.declared.event.Event.TheVariants.{Both, Out, In, Head}
-use Rattle.wire.specs.Answers.{Bytes, Causal, Sendable, replies, sent}
+use Rattle.wire.specs.Answers.{Bytes, Causal, Sendable, replies}
 use Rattle.wire.specs.Machine.{Bytewise, Machine, run}
 
 module _ {S : Type 0} (m : Machine S) where

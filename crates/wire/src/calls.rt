@@ -9,7 +9,7 @@ use crate::line::Line;
 
 // Sends each byte, and drops what comes back.
 pub fn send<L: Line>(line: &mut L, bytes: &[u8])
-    ensures left { answers line.new ≡ after (answers line.old) (map Both bytes.now) }
+    ensures left { L.answers line.new ≡ after (L.answers line.old) (map Both bytes.now) }
 {
     for b in bytes {
         let _ = line.both(*b);
@@ -18,7 +18,7 @@ pub fn send<L: Line>(line: &mut L, bytes: &[u8])
 
 // Replaces each byte by the answer to it.
 pub fn exchange_in_place<L: Line>(line: &mut L, buf: &mut [u8])
-    ensures ran { Ran (answers line.old) (map Both buf.old) buf.new (answers line.new) }
+    ensures ran { Ran (L.answers line.old) (map Both buf.old) buf.new (L.answers line.new) }
 {
     for b in buf.iter_mut() {
         *b = line.both(*b);
@@ -27,7 +27,7 @@ pub fn exchange_in_place<L: Line>(line: &mut L, buf: &mut [u8])
 
 // Sends 0x00 for each place, and fills it with the answer.
 pub fn read<L: Line>(line: &mut L, buf: &mut [u8])
-    ensures ran { Ran (answers line.old) (map Both (replicate (length buf.old) 0)) buf.new (answers line.new) }
+    ensures ran { Ran (L.answers line.old) (map Both (replicate (length buf.old) 0)) buf.new (L.answers line.new) }
 {
     buf.fill(0x00);
     exchange_in_place(line, buf);
@@ -35,8 +35,8 @@ pub fn read<L: Line>(line: &mut L, buf: &mut [u8])
 
 // Sends the bytes, then 0x00 as long as there are places left, and fills each place with the answer to its byte.
 pub fn transfer<L: Line>(line: &mut L, buf: &mut [u8], bytes: &[u8])
-    ensures filled { buf.new ≡ take (length buf.old) (answers line.old (map Both (padded bytes.now (length buf.old)))) }
-    ensures left { answers line.new ≡ after (answers line.old) (map Both (padded bytes.now (length buf.old))) }
+    ensures filled { buf.new ≡ take (length buf.old) (L.answers line.old (map Both (padded bytes.now (length buf.old)))) }
+    ensures left { L.answers line.new ≡ after (L.answers line.old) (map Both (padded bytes.now (length buf.old))) }
 {
     load(buf, bytes);
     exchange_in_place(line, buf);
@@ -54,7 +54,7 @@ pub fn load(buf: &mut [u8], bytes: &[u8])
 
 // Sends each byte, with nothing to come back.
 pub fn send_only<L: Line>(line: &mut L, bytes: &[u8])
-    ensures ran { Ran (answers line.old) (map Out bytes.now) [] (answers line.new) }
+    ensures ran { Ran (L.answers line.old) (map Out bytes.now) [] (L.answers line.new) }
 {
     for b in bytes {
         line.out(*b);
@@ -63,7 +63,7 @@ pub fn send_only<L: Line>(line: &mut L, bytes: &[u8])
 
 // Receives a byte for each place, and sends none.
 pub fn receive<L: Line>(line: &mut L, buf: &mut [u8])
-    ensures ran { Ran (answers line.old) (replicate (length buf.old) In) buf.new (answers line.new) }
+    ensures ran { Ran (L.answers line.old) (replicate (length buf.old) In) buf.new (L.answers line.new) }
 {
     for b in buf.iter_mut() {
         *b = line.receive();
@@ -72,7 +72,7 @@ pub fn receive<L: Line>(line: &mut L, buf: &mut [u8])
 
 // One event, whichever it is, and the byte that came back.
 pub fn apply<L: Line>(line: &mut L, event: Event) -> Option<u8>
-    ensures ran { Ran (answers line.old) (event ∷ []) (option_to_list result) (answers line.new) }
+    ensures ran { Ran (L.answers line.old) (event ∷ []) (option_to_list result) (L.answers line.new) }
 {
     match event {
         Event::Both(b) => Some(line.both(b)),

@@ -1,4 +1,7 @@
 // The worked values: proved of the definitions, and run.
+
+#![tactic(auto)]
+
 ghost use Rattle.std.specs.Prelude.{◌≡◌, length};
 ghost use Rattle.worked.specs.Worked.{Worked, examples};
 

@@ -1,4 +1,7 @@
 // The worked value of layers: proved of the definitions, and run; and one list of calls on two piles.
+
+#![tactic(auto)]
+
 ghost use Rattle.std.specs.Prelude.{◌≡◌, length};
 ghost use Rattle.worked_piles.specs.Worked.{Worked, held};
 

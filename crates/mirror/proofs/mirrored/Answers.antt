@@ -1,6 +1,6 @@
-use Rattle.std.proofs.Common.{◌≡◌, ◌<◌, sym, refl, ap, ◌∙◌, arith, rules}
+use Rattle.std.proofs.Common.{◌<◌, ap, ◌∙◌, arith, rules}
 use Rattle.std.proofs.lemmas.List.FromFn.{get_or-map-range_with_len}
-use Rattle.mirror.specs.Mirror.{Mirrors, mirror}
+use Rattle.mirror.specs.Mirror.{mirror}
 use Rattle.mirror.proofs.Bits.{mirror_mirrors, mirror_twice}
 use Rattle.mirror.proofs.mirrored.Goals as goal
 

@@ -1,6 +1,6 @@
-use Rattle.std.proofs.Common.{◌≡◌, ℕ, ◌<◌, ◌≢◌, List, get_or, ap, ◌∙◌, ⊎_elim, arith, lit<, rules, below_more}
+use Rattle.std.proofs.Common.{ℕ, ◌<◌, ◌≢◌, List, get_or, ◌∙◌, ⊎_elim, arith, lit<, below_more}
 use mathlib.Core.Path.{subst⁻¹}
-use Rattle.std.proofs.lemmas.List.FromFn.{fill_by_all, get_or-map-range_with_len, length-map-range_with_len}
+use Rattle.std.proofs.lemmas.List.FromFn.{fill_by_all, get_or-map-range_with_len}
 use Rattle.std.proofs.lemmas.List.{get_or_past, get_or-set_other, get_or-set_same, length-set}
 use Rattle.std.proofs.lemmas.Bool.{cases_lt}
 use Rattle.board.specs.declared.pump.Slot.{Slot}
@@ -13,7 +13,7 @@ loop-k-preserved c =
     let xs = c.loop-k.slots in
     let x = row c.args.holders.now c.args.previous.now k in (
       length-set xs k x ∙ c.loop-k.invariant.0,
-      below_more _ k c.loop-k.invariant.1 ((c.type-inv.holders k).fits, (c.type-inv.previous k).fits),
+      below_more _ k c.loop-k.invariant.1 ((c.type_inv.holders k).fits, (c.type_inv.previous k).fits),
       below_more _ k
           (λ j h. let ne : j ≢ k = omega arith in get_or-set_other xs k j x free ne ∙ c.loop-k.invariant.2 j h)
           (get_or-set_same xs k x free (omega arith)),

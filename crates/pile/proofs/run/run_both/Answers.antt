@@ -4,8 +4,8 @@ use Rattle.pile.proofs.run.run_both.Goals as goal
 pub returns : goal.returns
 returns g c =
     let ls = g.Q.Pile.layers in
-    let one = c.run-calls.ensures in
-    let two = c.run-calls-2.ensures in
+    let one = c.run_calls.ensures in
+    let two = c.run_calls-2.ensures in
     record {
       first = one.performed;
       second = two.performed;

@@ -1,4 +1,4 @@
-use Rattle.std.proofs.Common.{[], arith}
+use Rattle.std.proofs.Common.{arith}
 use Rattle.bus.specs.Calls.{calls_of}
 use Rattle.pile.specs.Piles.{Performed}
 use Rattle.pile.proofs.Beneath.{beneath_performed}
@@ -25,4 +25,4 @@ returns g c =
     let bus = performed c.loop-call.calls c.loop-call.invariant (omega arith) in
     let below : Performed ks (calls_of c.args.calls.now) (calls_of c.loop-call.calls) u v =
     beneath_performed ks u v (laws.through before) (laws.through afterwards) (laws.rests before) (laws.rests afterwards) bus in
-    record { is-bus = bus; performed = below; parity = λ ls alike. same_performed ks ls alike below }
+    record { is_bus = bus; performed = below; parity = λ ls alike. same_performed ks ls alike below }

@@ -12,8 +12,8 @@ returns c =
     let bs = held c.args.self.now.cells in
     let ws = c.args.buf.now in
     let some : 0 < length bs = simp length-drop (omega arith) in
-    let ran = c.exchange-in-place.ensures.ran in
-    let e : c.exchange-in-place.new.buf ≡ take (length ws) (bs ++ ws) = sym ran.gave ∙ delays bs ws some in
+    let ran = c.exchange_in_place.ensures.ran in
+    let e : c.exchange_in_place.new.buf ≡ take (length ws) (bs ++ ws) = sym ran.gave ∙ delays bs ws some in
     record {
       value = e;
       delayed = delayed bs ws _ e;

@@ -9,7 +9,7 @@ pub returns-in-Some : goal.returns-in-Some
 returns-in-Some c =
     record {
       value =
-          c.into-places.ensures.value
+          c.into_places.ensures.value
           ∙ sym (last_places (vec_items c.pop.new.self) c.in-Some.call)
           ∙ ap (λ (cs : List BusCall). places_of (calls_of cs)) (sym c.in-Some.ensures.items);
     }

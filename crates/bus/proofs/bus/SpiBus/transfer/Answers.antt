@@ -1,6 +1,5 @@
-use Rattle.std.proofs.Common.{◌≡◌, ℕ, ◌-◌, min, ◌++◌, length, take, drop, ap, ◌∙◌, arith}
+use Rattle.std.proofs.Common.{◌≡◌, ℕ, ◌-◌, min, length, take, drop, ap, ◌∙◌, arith}
 use Rattle.std.proofs.lemmas.List.{take_rest}
-use Rattle.wire.specs.Answers.{padded}
 use Rattle.wire.proofs.Padding.{all_sent}
 use Rattle.bus.specs.Answers.{after}
 use Rattle.bus.proofs.Runs.{two_parts}
@@ -15,7 +14,7 @@ returns g c =
     let m : i ≡ min (length xs) (length ws) = omega arith in
     let e : take (length ws - i) (drop i ws) ≡ drop (min (length xs) (length ws)) ws = take_rest ws i ∙ ap (λ (j : ℕ). drop j ws) m in
     let whole = all_sent ws xs (λ k h. c.load.ensures.loaded k (omega arith)) in
-    let left = c.write.ensures.left ∙ ap (after (g.Self.SpiBus.answers c.transfer-in-place.new.self)) e in
-    let t = two_parts c.transfer-in-place.ensures.ran _ _ (g.Self.SpiBus.causal _) whole left in
+    let left = c.write.ensures.left ∙ ap (after (g.Self.SpiBus.answers c.transfer_in_place.new.self)) e in
+    let t = two_parts c.transfer_in_place.ensures.ran _ _ (g.Self.SpiBus.causal _) whole left in
     let u = rw n at t in
     record { filled = u.0; left = u.1 }

@@ -9,24 +9,24 @@ returns g c =
     let k = g.C.Change.kind in
     let below = g.B.SpiBus.answers c.args.self.now.below in
     let piece = c.args.piece.now in
-    let scratch = c.changed-piece-scratch in
+    let scratch = c.changed_piece-scratch in
     let z : scratch.result.len - 0 ≡ scratch.result.len = omega arith in
     let loaded : take (scratch.result.len - 0) scratch.result.bytes ≡ map (change k) piece = rw z scratch.ensures.bytes in
-    let ran = c.transfer-in-place.ensures.ran in
-    let got = c.transfer-in-place.new.words in
+    let ran = c.transfer_in_place.ensures.ran in
+    let got = c.transfer_in_place.new.words in
     let whole : length got ≡ length piece =
     sym (ap length ran.gave) ∙ (g.B.SpiBus.causal c.args.self.now.below).count _ ∙ ap length loaded ∙ length-map piece (change k) in
     record {
-      ran = ran_changed k below piece _ loaded ran (c.hand-back.ensures.bytes ∙ ap (map (change k)) (take_at got _ (length piece) whole));
+      ran = ran_changed k below piece _ loaded ran (c.hand_back.ensures.bytes ∙ ap (map (change k)) (take_at got _ (length piece) whole));
     }
 
-pub slice-bounds-hand-back-end : goal.slice-bounds-hand-back-end
-slice-bounds-hand-back-end g c =
-    let scratch = c.changed-piece-scratch in
-    sym scratch.ensures.room ∙ rewritten_length scratch.result.bytes c.transfer-in-place.new.words (scratch.result.len - 0) (omega arith) (omega arith)
+pub slice_bounds-hand_back-end : goal.slice_bounds-hand_back-end
+slice_bounds-hand_back-end g c =
+    let scratch = c.changed_piece-scratch in
+    sym scratch.ensures.room ∙ rewritten_length scratch.result.bytes c.transfer_in_place.new.words (scratch.result.len - 0) (omega arith) (omega arith)
 
-pub hand-back-requires : goal.hand-back-requires
-hand-back-requires g c =
-    let scratch = c.changed-piece-scratch in
-    let long = rewritten_length scratch.result.bytes c.transfer-in-place.new.words (scratch.result.len - 0) (omega arith) (omega arith) in
+pub hand_back-requires : goal.hand_back-requires
+hand_back-requires g c =
+    let scratch = c.changed_piece-scratch in
+    let long = rewritten_length scratch.result.bytes c.transfer_in_place.new.words (scratch.result.len - 0) (omega arith) (omega arith) in
     omega arith

@@ -10,10 +10,10 @@ use Rattle.scenario.specs.Statements.{Act}
 use Rattle.scenario.specs.Wholes.{sofar, step_model}
 use Rattle.scenario.proofs.whole.Reader.take.Goals as goal
 
-pub returns-in-ok-push : goal.returns-in-ok-push
-returns-in-ok-push c =
+pub returns-in_ok-push-in-Call : goal.returns-in_ok-push-in-Call
+returns-in_ok-push-in-Call c =
     let old = c.args.self.now in
     let step : Step = record { source = old.source; call = c.in-Call.call } in
     let P : List (ℕ × Act) → Reading Sofar = λ xs. Ok (record { given = option_map line_model old.line; rate = old.source; steps = xs }) in
-    let pushed = ap (map step_model) c.in-ok-push.ensures.items ∙ map_push step_model (vec_items old.steps) step in
+    let pushed = ap (map step_model) c.in_ok-push-in-Call.ensures.items ∙ map_push step_model (vec_items old.steps) step in
     ap (λ (m : Statement). with_said (sofar old) (statement_model m)) c.in-Call.is ∙ ap P (sym pushed)

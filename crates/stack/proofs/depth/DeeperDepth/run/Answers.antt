@@ -1,16 +1,14 @@
-use Rattle.std.proofs.Common.{◌≡◌, ◌<◌, ◌≤◌, ◌∷◌, length, sym, refl, ap, ◌∙◌, arith, rules}
+use Rattle.std.proofs.Common.{◌<◌, ◌≤◌, ◌∷◌, length, sym, refl, ap, ◌∙◌, arith, rules}
 use Rattle.layer.specs.Kinds.{inverter, mirror}
-use Rattle.layer.specs.declared.layer.Layer.{Layer}
-use Rattle.splitter.specs.declared.splitter.Splitter.{Splitter}
 use Rattle.stack.specs.declared.setup.LayerSetup.TheVariants.{Mirror, Inverter, Split}
 use Rattle.stack.proofs.Firsts.{fewer, first_on, none_on}
 use Rattle.stack.proofs.depth.DeeperDepth.run.Goals as goal
 
-pub returns-then-is-empty : goal.returns-then-is-empty
-returns-then-is-empty g c =
+pub returns-then-is_empty : goal.returns-then-is_empty
+returns-then-is_empty g c =
     let xs = c.args.layers.now in
     let none : length xs ≤ 0 = search rules in
-    record { performed = λ _. none_on g.P.Pile.layers xs none c.run-calls.ensures.performed; refused = λ lt. absurd (omega arith) }
+    record { performed = λ _. none_on g.P.Pile.layers xs none c.run_calls.ensures.performed; refused = λ lt. absurd (omega arith) }
 
 pub returns-in-Mirror : goal.returns-in-Mirror
 returns-in-Mirror g c =
@@ -18,7 +16,7 @@ returns-in-Mirror g c =
     let some : 0 < length xs = search rules in
     let is = c.in-Mirror.is in
     let start = c.new.ensures.below in
-    let back = c.into-below.ensures.value in
+    let back = c.into_below.ensures.value in
     let beneath = g.P.Pile.beneath in
     record {
       performed = first_on Mirror Mirror xs some is g.P.Pile.layers (mirror ∷ g.P.Pile.layers) (λ _. refl) (ap beneath start) (ap beneath (sym back)) c.run.ensures.performed;
@@ -31,7 +29,7 @@ returns-in-Inverter g c =
     let some : 0 < length xs = search rules in
     let is = c.in-Inverter.is in
     let start = c.new-in-Inverter.ensures.below in
-    let back = c.into-below-in-Inverter.ensures.value in
+    let back = c.into_below-in-Inverter.ensures.value in
     let beneath = g.P.Pile.beneath in
     record {
       performed = first_on Mirror Inverter xs some is g.P.Pile.layers (inverter ∷ g.P.Pile.layers) (λ _. refl) (ap beneath start) (ap beneath (sym back)) c.run-in-Inverter.ensures.performed;
@@ -44,7 +42,7 @@ returns-in-Split g c =
     let some : 0 < length xs = search rules in
     let is = c.in-Split.is in
     let start = c.new-in-Split.ensures.below in
-    let back = c.into-below-in-Split.ensures.value in
+    let back = c.into_below-in-Split.ensures.value in
     let beneath = g.P.Pile.beneath in
     record {
       performed = first_on Mirror (Split c.in-Split.most) xs some is g.P.Pile.layers g.P.Pile.layers (λ _. refl) (ap beneath start) (ap beneath (sym back)) c.run-in-Split.ensures.performed;
