@@ -1,4 +1,7 @@
 // Reads a scenario, performs it on the bench, and prints what happened.
+
+#![tactic(auto)]
+
 use anyhow::anyhow;
 use bench::options::Options;
 use bench::setup::hang;
@@ -8,15 +11,16 @@ use lines::any::AnyLine;
 use scenario::whole::{Scenario, Step, read_scenario};
 use show::{CallText, EventsText, LineText, TotalsText, call_name};
 use std::io::Read;
+use std::process::ExitCode;
 use std::{env, fs};
 use wire::recorder::Recorder;
 
-fn main(rt: HostRuntime) -> anyhow::Result<()> {
+fn main(rt: HostRuntime) -> anyhow::Result<ExitCode> {
     match run(&rt) {
-        Ok(()) => Ok(()),
+        Ok(()) => Ok(ExitCode::SUCCESS),
         Err(e) => {
             eprintln!(rt; "spibench: {e}")?;
-            Err(e)
+            Ok(ExitCode::FAILURE)
         }
     }
 }
