@@ -1,4 +1,4 @@
--- A step of a scenario through its layers.
+-- A step that is written as a scenario's, through layers.
 use Rattle.std.specs.Prelude.{◌≡◌, ℕ, ◌<◌, List, [], ◌∷◌, replicate, Some, None, Option}
 use Rattle.std.specs.Option.{option_to_list}
 use Rattle.bus.specs.Calls.{Call, places}
@@ -30,7 +30,7 @@ places_of (c ∷ d ∷ cs) = places_of (d ∷ cs)
 abbrev pub Passed : List Kind → Option Call → Bus → Bus → List ℕ → Type 0
 Passed ks o m n buf = (results : List Call) × Performed ks (option_to_list o) results m n × (buf ≡ places_of results)
 
--- of n layers, only more than a scenario may have are too many
+-- of n layers, only more than the most are too many
 abbrev pub Stopped : Stop → ℕ → Type 0
 Stopped NoMemory n = Unit {0}
 Stopped TooManyLayers n = most_layers < n

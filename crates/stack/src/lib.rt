@@ -1,4 +1,4 @@
-// The layers that a scenario puts on a bare line, and calls through them.
+// Layers that are chosen at run time on a bare line, and calls through them.
 
 #![tactic(auto)]
 

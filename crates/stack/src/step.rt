@@ -1,4 +1,4 @@
-// One step of a scenario, through its layers.
+// A step that is written as a scenario's, through layers.
 ghost use Rattle.std.specs.Prelude.{◌≡◌, [], length, IfOk, MatchResult};
 ghost use Rattle.std.specs.Option.{option_map, option_to_list};
 ghost use Rattle.bench.specs.Steps.{Tells};
@@ -37,7 +37,7 @@ impl From<AllocError> for Stop {
     }
 }
 
-// The bus call that a scenario writes, with its buffers; none for a question.
+// The bus call that a statement writes, with its buffers; none for a question.
 pub fn bus_call(heap: Global, call: &Call) -> Result<Option<BusCall>, AllocError>
     ensures value { IfOk result (λ o. option_map call_of o ≡ bus_call (call_model call.now)) }
 {

@@ -1,4 +1,4 @@
-// Calls through the layers of a scenario, over any line.
+// Calls through layers, over any line.
 ghost use Rattle.std.specs.Prelude.{◌≡◌, true, List, [], length, is_ok, IfOk, MatchResult, nat_le};
 ghost use Rattle.bus.specs.Calls.{calls_of};
 ghost use Rattle.layer.specs.Kinds.{Kind};
@@ -13,11 +13,11 @@ use bus::call::BusCall;
 use pile::bottom::Bottom;
 use wire::line::Line;
 
-// As deep as a scenario's layers go.
+// As deep as layers go.
 type Deepest = Deeper<Deeper<Deeper<Deeper<Flat>>>>;
 
 // Each layer stands on top of those before it. The line is handed back; as it was, with nothing sent, where there are
-// more layers than a scenario may have.
+// more than `MOST_LAYERS` layers.
 pub fn run_through<L: Line>(line: L, layers: &[LayerSetup], calls: &mut [BusCall]) -> Result<L, L>
     ensures test { is_ok result ≡ nat_le (length layers.now) most_layers }
     ensures performed { MatchResult result (λ l. Performed (onto [] layers.now) (calls_of calls.old) (calls_of calls.new) (driven (L.Line.answers line)) (driven (L.Line.answers l))) (λ l. (l ≡ line) × (calls_of calls.new ≡ calls_of calls.old)) }
