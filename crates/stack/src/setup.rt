@@ -1,4 +1,5 @@
-// The layers to put on a line.
+// Layers to put on a line.
+
 // The most of them.
 pub const MOST_LAYERS: usize = 4;
 
