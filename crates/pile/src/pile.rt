@@ -1,8 +1,8 @@
 // A pile, by its layers and the bus beneath them.
-ghost use Rattle.std.specs.Prelude.{◌≡◌, List, [], ◌∷◌};
-ghost use Rattle.layer.specs.Kinds.{Kind};
+ghost use Rattle.std.specs.Prelude.{◌≡◌, List, [], ◌∷◌, refl};
+ghost use Rattle.layer.specs.Kinds.{Kind, changed};
 ghost use Rattle.pile.specs.Piles.{Bus, lifted};
-ghost use Rattle.std.proofs.Common.{rules};
+ghost use Rattle.std.proofs.Common.{ap};
 
 use crate::bottom::Bottom;
 use bus::bus::SpiBus;
@@ -26,9 +26,9 @@ impl<B: SpiBus> Pile for Bottom<B> {
 
     ghost beneath = { λ s. record { answers = B.SpiBus.answers s.bus; idle = B.SpiBus.idle s.bus } };
 
-    ghost through = { Prim.search rules };
+    ghost through = { λ _. refl };
 
-    ghost rests = { Prim.search rules };
+    ghost rests = { λ _. refl };
 }
 
 impl<C: Change, B: Pile> Pile for Layer<C, B> {
@@ -36,9 +36,9 @@ impl<C: Change, B: Pile> Pile for Layer<C, B> {
 
     ghost beneath = { λ s. B.Pile.beneath s.below };
 
-    ghost through = { Prim.search rules };
+    ghost through = { λ s. ap (changed C.Change.kind) (B.Pile.through s.below) };
 
-    ghost rests = { Prim.search rules };
+    ghost rests = { λ s. B.Pile.rests s.below };
 }
 
 impl<B: Pile> Pile for Splitter<B> {
@@ -46,7 +46,7 @@ impl<B: Pile> Pile for Splitter<B> {
 
     ghost beneath = { λ s. B.Pile.beneath s.port.below };
 
-    ghost through = { Prim.search rules };
+    ghost through = { λ s. B.Pile.through s.port.below };
 
-    ghost rests = { Prim.search rules };
+    ghost rests = { λ s. B.Pile.rests s.port.below };
 }

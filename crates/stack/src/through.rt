@@ -3,8 +3,7 @@ ghost use Rattle.std.specs.Prelude.{◌≡◌, true, List, [], length, is_ok, If
 ghost use Rattle.bus.specs.Calls.{calls_of};
 ghost use Rattle.layer.specs.Kinds.{Kind};
 ghost use Rattle.pile.specs.Piles.{Alike, Performed};
-ghost use Rattle.stack.specs.Stacks.{most_layers};
-ghost use Rattle.stack.specs.Stacks.{driven, onto};
+ghost use Rattle.stack.specs.Stacks.{driven, most_layers, onto};
 
 use crate::depth::{Deeper, Depth, Flat};
 use crate::setup::{LayerSetup, MOST_LAYERS};
@@ -13,7 +12,7 @@ use bus::call::BusCall;
 use pile::bottom::Bottom;
 use wire::line::Line;
 
-// As deep as layers go.
+// As deep as `MOST_LAYERS`.
 type Deepest = Deeper<Deeper<Deeper<Deeper<Flat>>>>;
 
 // Each layer stands on top of those before it. The line is handed back; as it was, with nothing sent, where there are
