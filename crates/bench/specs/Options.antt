@@ -8,6 +8,9 @@ use Rattle.bench.specs.declared.options.Sort.TheVariants.{State, File, Unknown}
 abbrev pub sort_of : List ℕ → sorts.Sort
 sort_of w = cond (bytes_eq w (codes "--state")) State (cond (slice_index w 0 == 0x2D) Unknown File)
 
+abbrev pub usage_text : List ℕ
+usage_text = codes "usage: spibench [--state] [FILE]"
+
 -- a file's name only where there is none yet
 abbrev pub allowed : sorts.Sort → Bool → Bool
 allowed State named = true

@@ -1,8 +1,9 @@
 // The words after the program's name.
-ghost use Rattle.std.specs.Prelude.{◌≡◌, true, false, is_some, is_ok, if◌then◌else◌, Some, string_bytes, slice_index};
-ghost use Rattle.bench.specs.Options.{allowed, names_file, names_state, sort_of};
+ghost use Rattle.std.specs.Prelude.{◌≡◌, true, false, is_some, is_ok, if◌then◌else◌, Some, string_bytes};
+ghost use Rattle.bench.specs.Options.{allowed, names_file, names_state, sort_of, usage_text};
 
-use digits::digits::same;
+use std::error::Error;
+use std::fmt;
 
 // `--state`, a file's name, or another word that begins with `-`.
 #[derive(Clone, Copy)]
@@ -12,33 +13,35 @@ pub enum Sort {
     Unknown,
 }
 
-#[derive(Drop)]
+#[derive(Default, Drop)]
 pub struct Options {
     pub state: bool,
     pub file: Option<String>,
 }
 
 // The words are not `[--state] [FILE]`.
-#[derive(Clone, Copy)]
+#[derive(Clone, Copy, Debug)]
 pub struct Usage;
 
-// 0 where there is none.
-fn first_byte(word: &[u8]) -> u8
-    ensures value { result ≡ slice_index word.now 0 }
-{
-    if word.is_empty() { 0 } else { word[0] }
+impl fmt::Display for Usage {
+    ghost output = { λ _. Some usage_text };
+
+    fn fmt<W: fmt::Write>(&self, f: &mut fmt::Formatter<W>) -> fmt::Result {
+        f.write_str("usage: spibench [--state] [FILE]")
+    }
 }
 
+impl Error for Usage {}
+
+// What a word is, and not the word in another form: so no `From`.
 pub fn sort_of(word: &[u8]) -> Sort
     ensures value { result ≡ sort_of word.now }
 {
-    if same(word, b"--state") {
-        return Sort::State;
+    match word {
+        b"--state" => Sort::State,
+        [b'-', ..] => Sort::Unknown,
+        _ => Sort::File,
     }
-    if first_byte(word) == b'-' {
-        return Sort::Unknown;
-    }
-    Sort::File
 }
 
 impl Options {
@@ -49,18 +52,10 @@ impl Options {
         ensures file { self.new.file ≡ (if is_ok result then (if names_file (sort_of (string_bytes word)) then Some word else self.old.file) else self.old.file) }
     {
         match sort_of(word.as_bytes()) {
-            Sort::State => {
-                self.state = true;
-                Ok(())
-            }
-            Sort::File => {
-                if self.file.is_some() {
-                    return Err(Usage);
-                }
-                self.file = Some(word);
-                Ok(())
-            }
-            Sort::Unknown => Err(Usage),
+            Sort::State => self.state = true,
+            Sort::File if self.file.is_none() => self.file = Some(word),
+            Sort::File | Sort::Unknown => return Err(Usage),
         }
+        Ok(())
     }
 }

@@ -1,8 +1,7 @@
 // The bus calls of a scenario, on any line.
-ghost use Rattle.std.specs.Prelude.{◌≡◌, MatchResult};
 ghost use Rattle.scenario.specs.Models.{call_model};
 ghost use Rattle.scenario.specs.Statements.{bus_read, bus_transfer, transfer_in_place};
-ghost use Rattle.bench.specs.Calls.{Performed};
+ghost use Rattle.bench.specs.Calls.{Done};
 
 use scenario::statement::Call;
 use std::alloc::{AllocError, Global};
@@ -10,10 +9,10 @@ use wire::calls::{exchange_in_place, read, send, transfer};
 use wire::line::Line;
 
 // What a place to read holds before the call.
-const BLANK: u8 = 0xAA;
+pub const BLANK: u8 = 0xAA;
 
 fn bus_read<L: Line>(heap: Global, line: &mut L, n: usize) -> Result<Vec<u8>, AllocError>
-    ensures done { MatchResult result (λ v. Performed (bus_read n) (L.answers line.old) v.items (L.answers line.new)) (λ _. L.answers line.new ≡ L.answers line.old) }
+    ensures done { Done (bus_read n) (L.answers line.old) result (λ v. v.items) (L.answers line.new) }
 {
     let mut buf = vec![in heap; BLANK; n]?;
     read(line, buf.as_mut_slice());
@@ -26,7 +25,7 @@ fn bus_transfer<L: Line>(
     n: usize,
     bytes: &[u8],
 ) -> Result<Vec<u8>, AllocError>
-    ensures done { MatchResult result (λ v. Performed (bus_transfer n bytes.now) (L.answers line.old) v.items (L.answers line.new)) (λ _. L.answers line.new ≡ L.answers line.old) }
+    ensures done { Done (bus_transfer n bytes.now) (L.answers line.old) result (λ v. v.items) (L.answers line.new) }
 {
     let mut buf = vec![in heap; BLANK; n]?;
     transfer(line, buf.as_mut_slice(), bytes);
@@ -38,7 +37,7 @@ fn transfer_in_place<L: Line>(
     line: &mut L,
     bytes: &[u8],
 ) -> Result<Vec<u8>, AllocError>
-    ensures done { MatchResult result (λ v. Performed (transfer_in_place bytes.now) (L.answers line.old) v.items (L.answers line.new)) (λ _. L.answers line.new ≡ L.answers line.old) }
+    ensures done { Done (transfer_in_place bytes.now) (L.answers line.old) result (λ v. v.items) (L.answers line.new) }
 {
     let mut buf = bytes.to_vec(heap)?;
     exchange_in_place(line, buf.as_mut_slice());
@@ -47,7 +46,7 @@ fn transfer_in_place<L: Line>(
 
 // The places of a call, as they are after it. Where there is no memory for them, nothing is sent.
 pub fn perform<L: Line>(heap: Global, line: &mut L, call: &Call) -> Result<Vec<u8>, AllocError>
-    ensures done { MatchResult result (λ v. Performed (call_model call.now) (L.answers line.old) v.items (L.answers line.new)) (λ _. L.answers line.new ≡ L.answers line.old) }
+    ensures done { Done (call_model call.now) (L.answers line.old) result (λ v. v.items) (L.answers line.new) }
 {
     match call {
         Call::BusWrite(bytes) => {

@@ -1,7 +1,7 @@
 // One step of a scenario.
-ghost use Rattle.std.specs.Prelude.{◌≡◌, IfOk, MatchResult};
+ghost use Rattle.std.specs.Prelude.{◌≡◌, IfOk};
 ghost use Rattle.scenario.specs.Models.{call_model};
-ghost use Rattle.bench.specs.Calls.{Performed};
+ghost use Rattle.bench.specs.Calls.{Done};
 ghost use Rattle.bench.specs.Steps.{Tells, accepted};
 
 use crate::perform::perform;
@@ -19,25 +19,31 @@ pub struct Outcome {
     pub clock: Option<Result<Clocking, ConfigError>>,
 }
 
+// The answer where the step asks for a clock word.
+pub fn clock_of(step: &Step) -> Option<Result<Clocking, ConfigError>>
+    ensures tells { Tells step.now.source (call_model step.now.call) result }
+{
+    match &step.call {
+        Call::Clock(frequency) => Some(ask_clock(step.source, *frequency)),
+        _ => None,
+    }
+}
+
 // Where there is no memory for the places, nothing is sent.
 pub fn take_step<L: Line>(heap: Global, line: &mut L, step: &Step) -> Result<Outcome, AllocError>
-    ensures done { MatchResult result (λ o. Performed (call_model step.now.call) (L.answers line.old) o.buffer.items (L.answers line.new)) (λ _. L.answers line.new ≡ L.answers line.old) }
+    ensures done { Done (call_model step.now.call) (L.answers line.old) result (λ o. o.buffer.items) (L.answers line.new) }
     ensures tells { IfOk result (λ o. Tells step.now.source (call_model step.now.call) o.clock) }
 {
     let buffer = perform(heap, line, &step.call)?;
-    let clock = match &step.call {
-        Call::Clock(frequency) => Some(ask_clock(step.source, *frequency)),
-        _ => None,
-    };
-    Ok(Outcome { buffer, clock })
+    Ok(Outcome {
+        buffer,
+        clock: clock_of(step),
+    })
 }
 
 // Whether a call was accepted: only a question for a clock word can be refused.
 pub fn is_accepted(outcome: &Outcome) -> bool
     ensures value { result ≡ accepted outcome.now.clock }
 {
-    match &outcome.clock {
-        Some(Err(_)) => false,
-        _ => true,
-    }
+    !matches!(&outcome.clock, Some(Err(_)))
 }

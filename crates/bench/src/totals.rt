@@ -1,7 +1,10 @@
 // What a summary counts. A count that is full stays at its most.
-ghost use Rattle.std.specs.Prelude.{◌≡◌, ◌+◌, ◌-◌, ◌^◌, min, not, if◌then◌else◌};
+ghost use Rattle.std.specs.Prelude.{◌≡◌, ◌+◌, ◌-◌, ◌^◌, min, not, if◌then◌else◌, Some};
+ghost use Rattle.bench.specs.Totals.{totals_text};
 
-#[derive(Clone, Copy)]
+use std::fmt;
+
+#[derive(Clone, Copy, Default)]
 pub struct Totals {
     pub calls: u64,
     pub accepted: u64,
@@ -13,12 +16,7 @@ impl Totals {
     pub fn new() -> Totals
         ensures value { result ≡ record { calls = 0; accepted = 0; refused = 0; events = 0 } }
     {
-        Totals {
-            calls: 0,
-            accepted: 0,
-            refused: 0,
-            events: 0,
-        }
+        Totals::default()
     }
 
     // One call more, with its events.
@@ -32,5 +30,17 @@ impl Totals {
         self.accepted = self.accepted.saturating_add(u64::from(accepted));
         self.refused = self.refused.saturating_add(u64::from(!accepted));
         self.events = self.events.saturating_add(events as u64);
+    }
+}
+
+impl fmt::Display for Totals {
+    ghost output = { λ t. Some (totals_text t) };
+
+    fn fmt<W: fmt::Write>(&self, f: &mut fmt::Formatter<W>) -> fmt::Result {
+        write!(
+            f,
+            "calls {} accepted {} refused {} events {}",
+            self.calls, self.accepted, self.refused, self.events
+        )
     }
 }

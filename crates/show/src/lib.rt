@@ -7,7 +7,6 @@ ghost use Rattle.scenario.specs.Models.{call_model};
 ghost use Rattle.show.specs.Names.{name_of};
 
 use bench::step::Outcome;
-use bench::totals::Totals;
 use board::pump::Board;
 use config::clocking::Clocking;
 use lines::any::AnyLine;
@@ -31,6 +30,7 @@ impl<'a> fmt::Display for Hex<'a> {
     }
 }
 
+// The text of a report and not of every event, and `Event` belongs to another crate: so a type of its own.
 #[derive(Drop)]
 pub struct EventText(pub Event);
 
@@ -78,6 +78,7 @@ pub fn call_name(call: &Call) -> &'static str
     }
 }
 
+// The text of a report and not of every answer, and `Clocking` belongs to another crate: so a type of its own.
 #[derive(Drop)]
 pub struct ClockText(pub Clocking);
 
@@ -154,8 +155,7 @@ impl<'a> fmt::Display for BoardText<'a> {
     fn fmt<W: fmt::Write>(&self, f: &mut fmt::Formatter<W>) -> fmt::Result {
         let indent = self.indent;
         write!(f, "{indent}line board")?;
-        for k in 0..8 {
-            let slot = self.board.slots[k];
+        for (k, slot) in self.board.slots.iter().enumerate() {
             write!(
                 f,
                 "\n{indent}  slot {k} holder {:02x} previous {:02x}",
@@ -167,18 +167,5 @@ impl<'a> fmt::Display for BoardText<'a> {
             Some(k) => write!(f, "\n{indent}  reply {reply:02x} awaited {k}"),
             None => write!(f, "\n{indent}  reply {reply:02x} awaited none"),
         }
-    }
-}
-
-#[derive(Drop)]
-pub struct TotalsText(pub Totals);
-
-impl fmt::Display for TotalsText {
-    fn fmt<W: fmt::Write>(&self, f: &mut fmt::Formatter<W>) -> fmt::Result {
-        write!(
-            f,
-            "calls {} accepted {} refused {} events {}",
-            self.0.calls, self.0.accepted, self.0.refused, self.0.events
-        )
     }
 }

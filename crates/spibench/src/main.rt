@@ -2,14 +2,14 @@
 
 #![tactic(auto)]
 
-use anyhow::anyhow;
+use anyhow::{Context, anyhow, ensure};
 use bench::options::Options;
 use bench::setup::hang;
 use bench::step::{is_accepted, take_step};
 use bench::totals::Totals;
 use lines::any::AnyLine;
 use scenario::whole::{Scenario, Step, read_scenario};
-use show::{CallText, EventsText, LineText, TotalsText, call_name};
+use show::{CallText, EventsText, LineText, call_name};
 use std::io::Read;
 use std::process::ExitCode;
 use std::{env, fs};
@@ -28,21 +28,14 @@ fn main(rt: HostRuntime) -> anyhow::Result<ExitCode> {
 fn run(rt: &HostRuntime) -> anyhow::Result<()> {
     let Options { state, file } = read_options(rt)?;
     let text = read_text(rt, file)?;
-    match read_scenario(rt.alloc(), text.as_slice()) {
-        Ok(scenario) => perform(rt, state, scenario),
-        Err(fault) => Err(anyhow!(format!(in rt.alloc(); "{fault}")?)),
-    }
+    let scenario = read_scenario(rt.alloc(), text.as_slice()).map_err(|fault| anyhow!(fault))?;
+    perform(rt, state, scenario)
 }
 
 fn read_options(rt: &HostRuntime) -> anyhow::Result<Options> {
-    let mut options = Options {
-        state: false,
-        file: None,
-    };
+    let mut options = Options::default();
     for word in env::args(rt)?.skip(1) {
-        if options.take(word).is_err() {
-            return Err(anyhow!("usage: spibench [--state] [FILE]"));
-        }
+        options.take(word)?;
     }
     Ok(options)
 }
@@ -59,27 +52,23 @@ fn read_text(rt: &HostRuntime, file: Option<String>) -> anyhow::Result<Vec<u8>> 
 
 fn perform(rt: &HostRuntime, state: bool, scenario: Scenario) -> anyhow::Result<()> {
     let Scenario { line, steps } = scenario;
-    let Some(line) = hang(line) else {
-        return Err(anyhow!("no such line"));
-    };
+    let line = hang(line).context("no such line")?;
     let mut wire = Recorder::new(rt.alloc(), line);
     let mut totals = Totals::new();
-    for step in steps.iter() {
+    for step in &steps {
         perform_step(rt, &mut wire, &mut totals, step)?;
         if state {
-            let text = LineText {
-                line: wire.line(),
-                indent: "  ",
-            };
-            println!(rt; "{text}")?;
+            print_line(rt, wire.line(), "  ")?;
         }
     }
-    let text = LineText {
-        line: wire.line(),
-        indent: "",
-    };
-    let counts = TotalsText(totals);
-    println!(rt; "{text}\n{counts}")?;
+    print_line(rt, wire.line(), "")?;
+    println!(rt; "{totals}")?;
+    Ok(())
+}
+
+fn print_line(rt: &HostRuntime, line: &AnyLine, indent: &str) -> anyhow::Result<()> {
+    let text = LineText { line, indent };
+    println!(rt; "{text}")?;
     Ok(())
 }
 
@@ -91,9 +80,7 @@ fn perform_step(
 ) -> anyhow::Result<()> {
     wire.clear();
     let outcome = take_step(rt.alloc(), wire, step)?;
-    if !wire.complete() {
-        return Err(anyhow!("no memory for the events"));
-    }
+    ensure!(wire.complete(), "no memory for the events");
     totals.count(is_accepted(&outcome), wire.events().len());
     let call = CallText {
         number: totals.calls,

@@ -1,26 +1,22 @@
 // A step that is written as a scenario's, through layers.
 ghost use Rattle.std.specs.Prelude.{◌≡◌, [], length, IfOk, MatchResult};
-ghost use Rattle.std.specs.Option.{option_map, option_to_list};
+ghost use Rattle.std.specs.Option.{option_map};
 ghost use Rattle.bench.specs.Steps.{Tells};
-ghost use Rattle.bus.specs.Calls.{call_of, calls_of};
+ghost use Rattle.bus.specs.Calls.{call_of};
 ghost use Rattle.scenario.specs.Models.{call_model};
 ghost use Rattle.stack.specs.declared.step.Stop.TheVariants.{NoMemory};
 ghost use Rattle.stack.specs.Stacks.{driven, onto};
-ghost use Rattle.stack.specs.Passes.{Passed, Stopped, bus_call, places_of};
+ghost use Rattle.stack.specs.Passes.{Passed, Stopped, bus_call};
 
 use crate::setup::LayerSetup;
 use crate::through::run_through;
-use bench::step::Outcome;
+use bench::perform::BLANK;
+use bench::step::{Outcome, clock_of};
 use bus::call::BusCall;
-use clock::error::ConfigError;
-use config::clocking::{Clocking, ask_clock};
 use scenario::statement::Call;
 use scenario::whole::Step;
 use std::alloc::{AllocError, Global};
 use wire::line::Line;
-
-// What a place to read holds before the call.
-const BLANK: u8 = 0xAA;
 
 // Why a step was not taken.
 #[derive(Clone, Copy)]
@@ -41,40 +37,16 @@ impl From<AllocError> for Stop {
 pub fn bus_call(heap: Global, call: &Call) -> Result<Option<BusCall>, AllocError>
     ensures value { IfOk result (λ o. option_map call_of o ≡ bus_call (call_model call.now)) }
 {
-    match call {
-        Call::BusWrite(bytes) => Ok(Some(BusCall::Write(bytes.as_slice().to_vec(heap)?))),
-        Call::BusRead(n) => Ok(Some(BusCall::Read(vec![in heap; BLANK; *n]?))),
+    Ok(Some(match call {
+        Call::BusWrite(bytes) => BusCall::Write(bytes.as_slice().to_vec(heap)?),
+        Call::BusRead(n) => BusCall::Read(vec![in heap; BLANK; *n]?),
         Call::BusTransfer(n, bytes) => {
-            let places = vec![in heap; BLANK; *n]?;
-            Ok(Some(BusCall::Transfer(places, bytes.as_slice().to_vec(heap)?)))
+            BusCall::Transfer(vec![in heap; BLANK; *n]?, bytes.as_slice().to_vec(heap)?)
         }
-        Call::TransferInPlace(bytes) => Ok(Some(BusCall::TransferInPlace(
-            bytes.as_slice().to_vec(heap)?,
-        ))),
-        Call::Flush => Ok(Some(BusCall::Flush)),
-        Call::Clock(_) => Ok(None),
-    }
-}
-
-// The same as a list of none or one.
-fn bus_calls(heap: Global, call: &Call) -> Result<Vec<BusCall>, AllocError>
-    ensures value { IfOk result (λ v. calls_of v.items ≡ option_to_list (bus_call (call_model call.now))) }
-{
-    let mut calls = Vec::new(heap);
-    if let Some(call) = bus_call(heap, call)? {
-        calls.push(call)?;
-    }
-    Ok(calls)
-}
-
-// The answer where the step asks for a clock word.
-fn ask(step: &Step) -> Option<Result<Clocking, ConfigError>>
-    ensures tells { Tells step.now.source (call_model step.now.call) result }
-{
-    match &step.call {
-        Call::Clock(frequency) => Some(ask_clock(step.source, *frequency)),
-        _ => None,
-    }
+        Call::TransferInPlace(bytes) => { BusCall::TransferInPlace(bytes.as_slice().to_vec(heap)?) }
+        Call::Flush => BusCall::Flush,
+        Call::Clock(_) => return Ok(None),
+    }))
 }
 
 // The line is handed back, with what came of the step.
@@ -87,23 +59,9 @@ pub fn take_layered<L: Line + Drop>(
     ensures passed { MatchResult result (λ p. Passed (onto [] layers.now) (bus_call (call_model step.now.call)) (driven (L.Line.answers line)) (driven (L.Line.answers p.0)) p.1.buffer.items) (λ e. Stopped e (length layers.now)) }
     ensures tells { IfOk result (λ p. Tells step.now.source (call_model step.now.call) p.1.clock) }
 {
-    let clock = ask(step);
-    let mut calls = bus_calls(heap, &step.call)?;
-    match run_through(line, layers, calls.as_mut_slice()) {
-        Ok(line) => {
-            let buffer = places_of(heap, calls);
-            Ok((line, Outcome { buffer, clock }))
-        }
-        Err(_) => Err(Stop::TooManyLayers),
-    }
-}
-
-// The places of the last call, or none.
-fn places_of(heap: Global, mut calls: Vec<BusCall>) -> Vec<u8>
-    ensures value { result.items ≡ places_of (calls_of calls.items) }
-{
-    match calls.pop() {
-        Some(call) => call.into_places(heap),
-        None => Vec::new(heap),
-    }
+    let clock = clock_of(step);
+    let mut call = bus_call(heap, &step.call)?;
+    let line = run_through(line, layers, call.as_mut_slice()).map_err(|_| Stop::TooManyLayers)?;
+    let buffer = call.map_or_else(|| Vec::new(heap), |call| call.into_places(heap));
+    Ok((line, Outcome { buffer, clock }))
 }
