@@ -42,15 +42,20 @@ impl<D: Depth> Depth for Deeper<D> {
     ghost most = { suc D.Depth.most };
 
     fn run<P: Pile>(mut pile: P, layers: &[LayerSetup], calls: &mut [BusCall]) -> P {
-        if layers.is_empty() {
-            run_calls(&mut pile, calls);
-            return pile;
-        }
-        let rest = &layers[1..];
-        match layers[0] {
-            LayerSetup::Mirror => D::run(Layer::new(Mirror, pile), rest, calls).into_below(),
-            LayerSetup::Inverter => D::run(Layer::new(Inverter, pile), rest, calls).into_below(),
-            LayerSetup::Split(most) => D::run(Splitter::new(most, pile), rest, calls).into_below(),
+        match layers {
+            [] => {
+                run_calls(&mut pile, calls);
+                pile
+            }
+            [LayerSetup::Mirror, rest @ ..] => {
+                D::run(Layer::new(Mirror, pile), rest, calls).into_below()
+            }
+            [LayerSetup::Inverter, rest @ ..] => {
+                D::run(Layer::new(Inverter, pile), rest, calls).into_below()
+            }
+            [LayerSetup::Split(most), rest @ ..] => {
+                D::run(Splitter::new(*most, pile), rest, calls).into_below()
+            }
         }
     }
 }
