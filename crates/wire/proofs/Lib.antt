@@ -1,3 +1,4 @@
+pub mod Boths
 pub mod Runs
 pub mod Midway
 pub mod Padding

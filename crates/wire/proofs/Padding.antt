@@ -4,7 +4,7 @@ use Rattle.std.proofs.lemmas.List.{ext_get_or, get_or_append_left, get_or-append
 use Rattle.std.proofs.lemmas.Bool.{cases_lt}
 use Rattle.wire.specs.declared.event.Event.TheVariants.{Both}
 use Rattle.wire.specs.Answers.{Answers, Causal, Ran, after, padded}
-use Rattle.wire.specs.Boths.{replies_boths}
+use Rattle.wire.proofs.Boths.{replies_boths}
 use Rattle.wire.proofs.Runs.{goes, leads}
 
 zeros : (m j : ℕ) → get_or {A = ℕ} (replicate m 0) j 0 ≡ 0

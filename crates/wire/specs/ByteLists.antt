@@ -1,11 +1,11 @@
 -- Lists of bytes, and what keeps them so. Cited where a line says what it means.
 use Rattle.std.specs.Prelude.{ℕ, zero, suc, ◌+◌, ◌<◌, List, [], ◌∷◌, ◌++◌, take, drop, replicate, slice_index_or, slice_set}
-use Rattle.std.proofs.Common.{lit<}
+use Rattle.std.proofs.Common.{sym, subst, lit<}
 use Rattle.std.proofs.lemmas.List.{get_or-drop}
 use Rattle.wire.specs.Answers.{Bytes}
 
 pub bytes_drop : (n : ℕ) (xs : List ℕ) → Bytes xs → Bytes (drop n xs)
-bytes_drop n xs all k = rw (get_or-drop n xs k 0) (all (n + k))
+bytes_drop n xs all k = subst (λ (b : ℕ). b < 256) (sym (get_or-drop n xs k 0)) (all (n + k))
 
 pub bytes_take : (n : ℕ) (xs : List ℕ) → Bytes xs → Bytes (take n xs)
 bytes_take zero xs all k = lit< tt

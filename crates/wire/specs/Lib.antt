@@ -2,5 +2,4 @@ pub mod Answers
 pub mod Machine
 pub mod Causality
 pub mod ByteLists
-pub mod Boths
 pub mod Noted

@@ -1,4 +1,5 @@
 // Calls on any line.
+// Each loop gives an event of its own: one loop over a closure would need a contract longer than these loops.
 ghost use Rattle.std.specs.Prelude.{◌≡◌, ℕ, ◌<◌, [], ◌∷◌, map, length, take, replicate, slice_index};
 ghost use Rattle.std.specs.Option.{option_to_list};
 ghost use Rattle.wire.specs.declared.event.Event.TheVariants.{Both, Out, In};
@@ -47,9 +48,9 @@ pub fn transfer<L: Line>(line: &mut L, buf: &mut [u8], bytes: &[u8])
 pub fn load(buf: &mut [u8], bytes: &[u8])
     ensures loaded { (k : ℕ) → k < length buf.old → slice_index buf.new k ≡ slice_index bytes.now k }
 {
-    for i in 0..buf.len() {
-        buf[i] = if i < bytes.len() { bytes[i] } else { 0x00 };
-    }
+    let (placed, pads) = buf.split_at_mut(buf.len().min(bytes.len()));
+    placed.copy_from_slice(&bytes[..placed.len()]);
+    pads.fill(0x00);
 }
 
 // Sends each byte, with nothing to come back.

@@ -9,38 +9,63 @@ use crate::line::Line;
 use std::alloc::Global;
 
 // `missed` is set once an event found no memory; until then `events` has all of them.
+// A flag beside the list, and no `Result`: a line's calls return no error, and the events before the loss stay readable.
+#[derive(Drop)]
+struct Log {
+    events: Vec<Event>,
+    missed: bool,
+}
+
+impl Log {
+    fn note(&mut self, event: Event)
+        ensures { Noted event self.old self.new }
+    {
+        if self.events.push(event).is_err() {
+            self.missed = true;
+        }
+    }
+
+    fn clear(&mut self)
+        ensures events { self.new.events.items ≡ [] }
+        ensures missed { self.new.missed ≡ self.old.missed }
+    {
+        self.events.clear();
+    }
+}
+
 #[derive(Drop)]
 pub struct Recorder<L> {
     line: L,
-    events: Vec<Event>,
-    missed: bool,
+    log: Log,
 }
 
 impl<L> Recorder<L> {
     pub fn new(heap: Global, line: L) -> Recorder<L>
         ensures line { result.line ≡ line }
-        ensures events { result.events.items ≡ [] }
-        ensures missed { result.missed ≡ false }
+        ensures events { result.log.events.items ≡ [] }
+        ensures missed { result.log.missed ≡ false }
     {
         Recorder {
             line,
-            events: Vec::new(heap),
-            missed: false,
+            log: Log {
+                events: Vec::new(heap),
+                missed: false,
+            },
         }
     }
 
     // What passed since the making or the last `clear`.
     pub fn events(&self) -> &[Event]
-        ensures value { result.now ≡ self.now.events.items }
+        ensures value { result.now ≡ self.now.log.events.items }
     {
-        self.events.as_slice()
+        self.log.events.as_slice()
     }
 
     // Whether no event has found the memory full.
     pub fn complete(&self) -> bool
-        ensures value { result ≡ not self.now.missed }
+        ensures value { result ≡ not self.now.log.missed }
     {
-        !self.missed
+        !self.log.missed
     }
 
     pub fn line(&self) -> &L
@@ -52,19 +77,10 @@ impl<L> Recorder<L> {
     // Forgets the events, and nothing else.
     pub fn clear(&mut self)
         ensures line { self.new.line ≡ self.old.line }
-        ensures events { self.new.events.items ≡ [] }
-        ensures missed { self.new.missed ≡ self.old.missed }
+        ensures events { self.new.log.events.items ≡ [] }
+        ensures missed { self.new.log.missed ≡ self.old.log.missed }
     {
-        self.events.clear();
-    }
-
-    fn note(&mut self, event: Event)
-        ensures line { self.new.line ≡ self.old.line }
-        ensures noted { Noted event self.old.events.items self.old.missed self.new.events.items self.new.missed }
-    {
-        if self.events.push(event).is_err() {
-            self.missed = true;
-        }
+        self.log.clear();
     }
 }
 
@@ -75,33 +91,33 @@ impl<L: Line> Line for Recorder<L> {
 
     fn both(&mut self, b: u8) -> u8
         ensures ran { Ran (L.Line.answers self.old.line) (Both b ∷ []) (result ∷ []) (L.Line.answers self.new.line) }
-        ensures noted { Noted (Both b) self.old.events.items self.old.missed self.new.events.items self.new.missed }
+        ensures noted { Noted (Both b) self.old.log self.new.log }
     {
-        self.note(Event::Both(b));
+        self.log.note(Event::Both(b));
         self.line.both(b)
     }
 
     fn out(&mut self, b: u8)
         ensures ran { Ran (L.Line.answers self.old.line) (Out b ∷ []) [] (L.Line.answers self.new.line) }
-        ensures noted { Noted (Out b) self.old.events.items self.old.missed self.new.events.items self.new.missed }
+        ensures noted { Noted (Out b) self.old.log self.new.log }
     {
-        self.note(Event::Out(b));
+        self.log.note(Event::Out(b));
         self.line.out(b);
     }
 
     fn receive(&mut self) -> u8
         ensures ran { Ran (L.Line.answers self.old.line) (In ∷ []) (result ∷ []) (L.Line.answers self.new.line) }
-        ensures noted { Noted In self.old.events.items self.old.missed self.new.events.items self.new.missed }
+        ensures noted { Noted In self.old.log self.new.log }
     {
-        self.note(Event::In);
+        self.log.note(Event::In);
         self.line.receive()
     }
 
     fn head(&mut self, h: Head)
         ensures ran { Ran (L.Line.answers self.old.line) (Event.Head h ∷ []) [] (L.Line.answers self.new.line) }
-        ensures noted { Noted (Event.Head h) self.old.events.items self.old.missed self.new.events.items self.new.missed }
+        ensures noted { Noted (Event.Head h) self.old.log self.new.log }
     {
-        self.note(Event::Head(h));
+        self.log.note(Event::Head(h));
         self.line.head(h);
     }
 }

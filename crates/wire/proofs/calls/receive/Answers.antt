@@ -1,15 +1,11 @@
-use Rattle.std.proofs.Common.{◌≡◌, ℕ, List, [], ◌∷◌, map, length, replicate, refl, ap, arith}
-use Rattle.wire.specs.declared.event.Event.{Event}
+use Rattle.std.proofs.Common.{refl, arith}
+use Rattle.std.proofs.lemmas.Simd.{splat_is_map}
 use Rattle.wire.specs.declared.event.Event.TheVariants.{In}
 use Rattle.wire.proofs.Midway.{midway_none, places_all, places_more}
 use Rattle.wire.proofs.calls.receive.Goals as goal
 
-ins : (xs : List ℕ) → map (λ _. In) xs ≡ replicate (length xs) In
-ins [] = refl
-ins (x ∷ xs) = ap (λ (es : List Event). In ∷ es) (ins xs)
-
 pub loop-b-init : goal.loop-b-init
-loop-b-init g c = rw (ins c.args.buf.now) midway_none
+loop-b-init g c = rw (splat_is_map c.args.buf.now _ In refl) midway_none
 
 pub loop-b-preserved : goal.loop-b-preserved
 loop-b-preserved g c =

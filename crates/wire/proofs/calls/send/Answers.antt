@@ -1,10 +1,7 @@
 use Rattle.std.proofs.Common.{arith}
 use Rattle.wire.specs.declared.event.Event.TheVariants.{Both}
-use Rattle.wire.proofs.Midway.{bytes_all, bytes_more, midway_none}
+use Rattle.wire.proofs.Midway.{bytes_all, bytes_more}
 use Rattle.wire.proofs.calls.send.Goals as goal
-
-pub loop-b-init : goal.loop-b-init
-loop-b-init g c = (_, midway_none)
 
 pub loop-b-preserved : goal.loop-b-preserved
 loop-b-preserved g c =

@@ -1,6 +1,5 @@
 -- A Both for each byte of a list.
-use Rattle.std.specs.Prelude.{◌≡◌, ℕ, zero, suc, List, [], ◌∷◌, map, length, refl}
-use Rattle.std.proofs.Common.{arith, lit<}
+use Rattle.std.proofs.Common.{◌≡◌, ℕ, zero, suc, List, [], ◌∷◌, map, length, refl, arith, lit<}
 use Rattle.wire.specs.declared.event.Event.TheVariants.{Both}
 use Rattle.wire.specs.Answers.{Bytes, Sendable, replies}
 
