@@ -5,7 +5,7 @@ use Rattle.std.proofs.lemmas.List.{map-append}
 use Rattle.wire.specs.declared.event.Event.TheVariants.{Both}
 use Rattle.wire.specs.Answers as line
 use Rattle.bus.specs.Answers.{Ran, after}
-use Rattle.wire.specs.Boths.{replies_boths}
+use Rattle.wire.proofs.Boths.{replies_boths}
 use Rattle.bus.specs.Bare.{bare}
 
 module _ (a : line.Answers) (xs : List ℕ) {b : line.Answers} where

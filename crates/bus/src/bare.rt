@@ -42,12 +42,4 @@ impl<L: Line> SpiBus for Bare<L> {
     }
 
     fn flush(&mut self) {}
-
-    fn read(&mut self, words: &mut [u8]) {
-        calls::read(&mut self.line, words);
-    }
-
-    fn transfer(&mut self, read: &mut [u8], write: &[u8]) {
-        calls::transfer(&mut self.line, read, write);
-    }
 }
