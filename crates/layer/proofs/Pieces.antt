@@ -1,18 +1,9 @@
 -- A piece that is changed into a scratch buffer, sent below, and changed back.
-use Rattle.std.proofs.Common.{◌≡◌, ℕ, ◌+◌, ◌<◌, ◌≤◌, List, ◌++◌, map, length, get_or, take, set, sym, ap, ◌∙◌, arith}
+use Rattle.std.proofs.Common.{◌≡◌, ℕ, List, map, sym, ap, ◌∙◌}
 use mathlib.Core.Path.{fun_ext}
-use borrow.Rule.Slice.PartMut.{post_of}
-use Rattle.std.proofs.lemmas.List.{drop-map, length-append, length-drop, length-map, map-append, map_more, take_more_set}
+use Rattle.std.proofs.lemmas.List.{drop-map, length-map, map-append}
 use Rattle.bus.specs.Answers.{Answers, Ran, after}
 use Rattle.layer.specs.Kinds.{Kind, change, changed}
-
--- one element more is changed
-pub changed_more : (f : ℕ → ℕ) (xs ys : List ℕ) (i v : ℕ) → i < length xs → i < length ys → take i ys ≡ map f (take i xs) → v ≡ f (get_or xs i 0) → take (i + 1) (set ys i v) ≡ map f (take (i + 1) xs)
-changed_more f xs ys i v lx ly inv is = take_more_set ys i v ly ∙ (let e = map_more f xs i 0 lx in cc)
-
--- an array is as long as it was once its first n elements are written again
-pub rewritten_length : (xs ys : List ℕ) (n : ℕ) → length ys ≡ n → n ≤ length xs → length xs ≡ length (ys ++ post_of 0 n xs)
-rewritten_length xs ys n e le = simp (length-append, length-drop) (omega arith)
 
 -- a layer after some bytes is a layer over the bus after those bytes, changed
 pub changed-after : (k : Kind) (a : Answers) (xs : List ℕ) → after (changed k a) xs ≡ changed k (after a (map (change k) xs))

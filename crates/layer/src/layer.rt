@@ -36,25 +36,21 @@ impl<C: Drop, B> Layer<C, B> {
 impl<C: Change, B: SpiBus> Layer<C, B> {
     // Replaces each byte of a piece by the answer to it. `read` below would send a pad that is not changed.
     fn exchange(&mut self, piece: &mut [u8])
-        requires { length piece.old ≤ 64 }
+        requires { length piece.old ≤ PIECE }
         ensures ran { Ran (changed C.Change.kind (B.SpiBus.answers self.old.below)) piece.old piece.new (changed C.Change.kind (B.SpiBus.answers self.new.below)) }
     {
-        let scratch = changed_piece(&self.change, piece);
-        let len = scratch.len;
-        let mut bytes = scratch.bytes;
-        self.below.transfer_in_place(&mut bytes[0..len]);
+        let mut bytes = changed_piece(&self.change, piece).bytes;
+        self.below.transfer_in_place(&mut bytes[..piece.len()]);
         hand_back(&self.change, &bytes, piece);
     }
 
     // Sends each byte of a piece, and drops what comes back.
     fn send(&mut self, piece: &[u8])
-        requires { length piece.now ≤ 64 }
+        requires { length piece.now ≤ PIECE }
         ensures left { changed C.Change.kind (B.SpiBus.answers self.new.below) ≡ after (changed C.Change.kind (B.SpiBus.answers self.old.below)) piece.now }
     {
-        let scratch = changed_piece(&self.change, piece);
-        let len = scratch.len;
-        let bytes = scratch.bytes;
-        self.below.write(&bytes[0..len]);
+        let bytes = changed_piece(&self.change, piece).bytes;
+        self.below.write(&bytes[..piece.len()]);
     }
 }
 
@@ -66,20 +62,16 @@ impl<C: Change, B: SpiBus> SpiBus for Layer<C, B> {
     ghost idle = { λ s. B.SpiBus.idle s.below };
 
     fn write(&mut self, words: &[u8]) {
-        let mut done = 0;
-        while done < words.len() {
-            let len = (words.len() - done).min(PIECE);
-            self.send(&words[done..done + len]);
-            done += len;
+        for piece in words.chunks(PIECE) {
+            self.send(piece);
         }
     }
 
     fn transfer_in_place(&mut self, words: &mut [u8]) {
-        let mut done = 0;
-        while done < words.len() {
+        // By place, since a proof does not see what is written through `chunks_mut`.
+        for done in (0..words.len()).step_by(PIECE) {
             let len = (words.len() - done).min(PIECE);
             self.exchange(&mut words[done..done + len]);
-            done += len;
         }
     }
 

@@ -7,26 +7,21 @@ use crate::change::Change;
 // The most bytes of a piece.
 pub(crate) const PIECE: usize = 64;
 
-// The first `len` bytes count.
+// Places for a piece; those past its end mean nothing.
 #[derive(Clone, Copy)]
 pub(crate) struct Scratch {
-    pub(crate) bytes: [u8; 64],
-    pub(crate) len: usize,
+    pub(crate) bytes: [u8; PIECE],
 }
 
 // Each byte of a piece, changed.
 pub(crate) fn changed_piece<C: Change>(by: &C, piece: &[u8]) -> Scratch
-    requires { length piece.now ≤ 64 }
-    ensures len { result.len ≡ length piece.now }
-    ensures room { length result.bytes ≡ 64 }
-    ensures bytes { take result.len result.bytes ≡ map (change C.kind) piece.now }
+    requires { length piece.now ≤ PIECE }
+    ensures room { length result.bytes ≡ PIECE }
+    ensures bytes { take (length piece.now) result.bytes ≡ map (change C.kind) piece.now }
 {
-    let mut scratch = Scratch {
-        bytes: [0; 64],
-        len: piece.len(),
-    };
-    for i in 0..piece.len() {
-        scratch.bytes[i] = by.changed(piece[i]);
+    let mut scratch = Scratch { bytes: [0; PIECE] };
+    for (i, byte) in piece.iter().enumerate() {
+        scratch.bytes[i] = by.changed(*byte);
     }
     scratch
 }
@@ -36,7 +31,8 @@ pub(crate) fn hand_back<C: Change>(by: &C, from: &[u8], piece: &mut [u8])
     requires { length piece.old ≤ length from.now }
     ensures bytes { piece.new ≡ map (change C.kind) (take (length piece.old) from.now) }
 {
-    for i in 0..piece.len() {
-        piece[i] = by.changed(from[i]);
+    // By index, since a proof does not see what is written through `iter_mut().zip(from)`.
+    for (i, place) in piece.iter_mut().enumerate() {
+        *place = by.changed(from[i]);
     }
 }

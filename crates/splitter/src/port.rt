@@ -42,6 +42,7 @@ impl<B> Port<B> {
     }
 }
 
+// Each call says that `most` stays: a bound that the caller keeps and passes along could be another than this port's.
 impl<B: SpiBus> Port<B> {
     pub(crate) fn exchange(&mut self, piece: &mut [u8])
         requires short { length piece.old ≤ self.old.most }

@@ -36,22 +36,17 @@ impl<B: SpiBus> SpiBus for Splitter<B> {
     ghost idle = { λ s. B.SpiBus.idle s.port.below };
 
     fn write(&mut self, words: &[u8]) {
-        let most = self.port.most();
-        let mut done = 0;
-        while done < words.len() {
-            let len = (words.len() - done).min(most);
-            self.port.send(&words[done..done + len]);
-            done += len;
+        for piece in words.chunks(self.port.most()) {
+            self.port.send(piece);
         }
     }
 
     fn transfer_in_place(&mut self, words: &mut [u8]) {
+        // By place, since a proof does not see what is written through `chunks_mut`.
         let most = self.port.most();
-        let mut done = 0;
-        while done < words.len() {
+        for done in (0..words.len()).step_by(most) {
             let len = (words.len() - done).min(most);
             self.port.exchange(&mut words[done..done + len]);
-            done += len;
         }
     }
 

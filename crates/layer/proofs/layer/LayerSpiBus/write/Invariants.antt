@@ -1,13 +1,12 @@
-use Rattle.std.proofs.Common.{◌-◌, ◌≤◌, length}
+use Rattle.std.proofs.Common.{◌≡◌}
+use Rattle.std.specs.Slice.Iter.{chunks_rest, chunks_size}
 use Rattle.bus.proofs.Midway.{Sending}
 use Rattle.layer.specs.Kinds.{changed}
 use Rattle.layer.proofs.layer.LayerSpiBus.write.Given as goal
 
-abbrev pub invariant-loop-done : goal.invariant-loop-done
-invariant-loop-done g l =
+abbrev pub invariant-loop-piece : goal.invariant-loop-piece
+invariant-loop-piece g l =
     let k = g.C.Change.kind in
     let a = g.B.SpiBus.answers in
-    (l.done ≤ length l.words) × Sending (changed k (a l.initial.self.below)) l.words l.done (changed k (a l.self.below))
-
-abbrev pub decreases-loop-done : goal.decreases-loop-done
-decreases-loop-done g l = length l.words - l.done
+    (chunks_size l.piece-iterator ≡ 64)
+    × Sending (changed k (a l.initial.self.below)) l.words (changed k (a l.self.below)) (chunks_rest l.piece-iterator)

@@ -1,14 +1,11 @@
-use mathlib.Core.Path.{◌≡◌}
-use Prim.Native.Nat.{◌-◌, ◌≤◌}
-use lib.ListN.{drop, length, take}
+use Rattle.std.proofs.Common.{◌≡◌, ◌-◌, length, take, drop}
 use Rattle.bus.proofs.Midway.{Midway}
 use Rattle.splitter.proofs.splitter.SplitterSpiBus.transfer_in_place.Given as goal
 
 abbrev pub invariant-loop-done : goal.invariant-loop-done
 invariant-loop-done g l =
     let a = g.B.SpiBus.answers in
-    (l.self.port.most ≡ l.initial.self.port.most)
-    × (l.done ≤ length l.words)
+    (l.self.port.most ≡ l.most)
     × Midway (a l.initial.self.port.below) l.initial.words (take l.done l.words) (a l.self.port.below) (drop l.done l.words)
 
 abbrev pub decreases-loop-done : goal.decreases-loop-done
