@@ -9,23 +9,32 @@ ghost use Rattle.board.specs.BoardBytes.{pump_bytes};
 use wire::event::Head;
 use wire::line::Line;
 
-// 0 stands for nobody.
-#[derive(Clone, Copy)]
+// A holder is the byte that the wire carries, in which 0 stands for nobody.
+#[derive(Clone, Copy, Default)]
 pub struct Slot {
     pub holder: u8,
     pub previous: u8,
 }
 
-const FREE: Slot = Slot {
-    holder: 0,
-    previous: 0,
-};
-
-#[derive(Drop)]
+// The eight slots stand in the board itself, with no heap.
+#[derive(Clone, Copy)]
 pub struct Board {
     pub slots: [Slot; 8],
     pub reply: u8,
     pub awaited: Option<u8>,
+}
+
+// Nobody holds a slot or held one before, and none is awaited.
+impl Default for Board {
+    ghost is_default = { λ b. b ≡ record { slots = replicate 8 free; reply = 0; awaited = None } };
+
+    fn default() -> Board {
+        Board {
+            slots: [Slot::default(); 8],
+            reply: 0x00,
+            awaited: None,
+        }
+    }
 }
 
 #[derive(Drop)]
@@ -43,19 +52,34 @@ fn mark(slot: &mut Slot, b: u8)
     slot.holder = b;
 }
 
-fn slot_table(holders: &[u8], previous: &[u8]) -> [Slot; 8]
-    requires { (length holders.now ≡ 8) × (length previous.now ≡ 8) }
-    ensures value { result ≡ rows holders.now previous.now }
-    ensures bytes { ((k : ℕ) → (slice_index_or result k free).holder < 256) × ((k : ℕ) → (slice_index_or result k free).previous < 256) }
+// The slots, of their holders and of the holders before.
+pub fn slot_table(holders: [u8; 8], previous: [u8; 8]) -> [Slot; 8]
+    ensures value { result ≡ rows holders previous }
 {
-    let mut slots = [FREE; 8];
-    for k in 0..8 {
-        slots[k] = Slot {
-            holder: holders[k],
-            previous: previous[k],
-        };
+    std::array::from_fn(|k| Slot {
+        holder: holders[k],
+        previous: previous[k],
+    })
+}
+
+impl Slot {
+    // Of a slot passed by value both are known to be bytes, and of one within an array not yet.
+    fn holds_bytes(self)
+        ensures { (self.holder < 256) × (self.previous < 256) }
+    {}
+}
+
+impl Board {
+    // Changes nothing: its clauses are what a pump board's ghost fields ask.
+    fn holds_bytes(&self)
+        ensures eight { length self.now.slots ≡ 8 }
+        ensures bytes { Bytewide self.now }
+    {
+        for slot in &self.slots {
+            slot.holds_bytes();
+        }
+        let _reply = self.reply;
     }
-    slots
 }
 
 impl PumpBoard {
@@ -63,34 +87,19 @@ impl PumpBoard {
         ensures { result.board ≡ record { slots = replicate 8 free; reply = 0; awaited = None } }
     {
         PumpBoard {
-            board: Board {
-                slots: [FREE; 8],
-                reply: 0x00,
-                awaited: None,
-            },
+            board: Board::default(),
         }
     }
 
     // A board in any state; none where the slot awaited is not one of the eight.
-    pub fn starting(
-        holders: [u8; 8],
-        previous: [u8; 8],
-        reply: u8,
-        awaited: Option<u8>,
-    ) -> Option<PumpBoard>
-        ensures test { is_some result ≡ one_of_eight awaited }
-        ensures board { IfSome result (λ p. p.board ≡ record { slots = rows holders previous; reply = reply; awaited = awaited }) }
+    pub fn starting(board: Board) -> Option<PumpBoard>
+        ensures test { is_some result ≡ one_of_eight board.awaited }
+        ensures board { IfSome result (λ p. p.board ≡ board) }
     {
-        let slots = slot_table(&holders, &previous);
-        match awaited {
+        board.holds_bytes();
+        match board.awaited {
             Some(k) if k >= 8 => None,
-            _ => Some(PumpBoard {
-                board: Board {
-                    slots,
-                    reply,
-                    awaited,
-                },
-            }),
+            _ => Some(PumpBoard { board }),
         }
     }
 
