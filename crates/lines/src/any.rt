@@ -1,16 +1,17 @@
 // A line of any of the three kinds.
 ghost use Rattle.lines.specs.AnyLine.{any_answers, any_causal};
 
-use crate::owned::OwnedScript;
+use crate::script::Script;
 use board::pump::PumpBoard;
 use relay::RelayChain;
 use wire::event::Head;
 use wire::line::Line;
 
+// An enum, and no box of any line: what shows a line's state asks its kind. So each call has a match of its own.
 #[derive(Drop)]
 pub enum AnyLine {
     Relay(RelayChain),
-    Script(OwnedScript),
+    Script(Script<Vec<u8>>),
     Board(PumpBoard),
 }
 

@@ -3,5 +3,4 @@
 #![tactic(auto)]
 
 pub mod any;
-pub mod owned;
 pub mod script;
