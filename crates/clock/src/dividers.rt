@@ -4,38 +4,47 @@ ghost use Rattle.clock.specs.Dividers.{Best, dividers_of, divisions, error_of, p
 
 const MAX_PRE: u32 = 16;
 
-// The prescaler that goes with the divider n.
-fn pre_for(source: u32, frequency: u32, n: u32) -> u32
-    requires { (0 < frequency) × (2 ≤ n) }
-    ensures { result ≡ pre_of source frequency n }
-{
-    ((source / n + frequency / 2) / frequency).clamp(1, MAX_PRE)
+// A source rate, and the frequency that is wanted of it.
+#[derive(Clone, Copy)]
+struct Aim {
+    source: u32,
+    frequency: u32,
+    ghost some: { 0 < frequency },
 }
 
-// How far from the frequency the clock runs with n and its prescaler.
-fn error_of(source: u32, frequency: u32, n: u32) -> u32
-    requires { (0 < frequency) × ((2 ≤ n) × (n ≤ 64)) }
-    ensures { result ≡ error_of source frequency n }
-{
-    (source / (pre_for(source, frequency, n) * n)).abs_diff(frequency)
-}
-
-// Tries each divider from 2 to 64.
-fn search(source: u32, frequency: u32) -> (u32, u32)
-    requires { 0 < frequency }
-    ensures best { Best source frequency result.0 result.1 }
-    ensures value { result ≡ divisions source frequency }
-{
-    let mut best = 2;
-    let mut least = error_of(source, frequency, best);
-    for n in 3..=64 {
-        let error = error_of(source, frequency, n);
-        if error <= least {
-            best = n;
-            least = error;
-        }
+impl Aim {
+    // The prescaler that goes with the divider n.
+    fn pre_for(self, n: u32) -> u32
+        requires { 2 ≤ n }
+        ensures { result ≡ pre_of self.source self.frequency n }
+    {
+        ((self.source / n + self.frequency / 2) / self.frequency).clamp(1, MAX_PRE)
     }
-    (best, pre_for(source, frequency, best))
+
+    // How far from the frequency the clock runs with n and its prescaler.
+    fn error_of(self, n: u32) -> u32
+        requires { (2 ≤ n) × (n ≤ 64) }
+        ensures { result ≡ error_of self.source self.frequency n }
+    {
+        (self.source / (self.pre_for(n) * n)).abs_diff(self.frequency)
+    }
+
+    // Tries each divider from 2 to 64.
+    fn search(self) -> (u32, u32)
+        ensures best { Best self.source self.frequency result.0 result.1 }
+        ensures value { result ≡ divisions self.source self.frequency }
+    {
+        let mut best = 2;
+        let mut least = self.error_of(best);
+        for n in 3..=64 {
+            let error = self.error_of(n);
+            if error <= least {
+                best = n;
+                least = error;
+            }
+        }
+        (best, self.pre_for(best))
+    }
 }
 
 // The divider of the least error, the largest on ties, and its prescaler; none at frequency 0.
@@ -47,5 +56,5 @@ pub fn dividers(source: u32, frequency: u32) -> Option<(u32, u32)>
     if frequency == 0 {
         return None;
     }
-    Some(search(source, frequency))
+    Some(Aim { source, frequency }.search())
 }

@@ -4,8 +4,8 @@ ghost use Rattle.clock.specs.Clock.{number};
 
 #[derive(Clone, Copy, PartialEq, Eq, Debug)]
 pub enum ConfigError {
-    FrequencyOutOfRange,
-    BadSource,
+    FrequencyOutOfRange = 3,
+    BadSource = 4,
 }
 
 impl ConfigError {
@@ -13,9 +13,6 @@ impl ConfigError {
     pub fn number(self) -> u8
         ensures { result ≡ number self }
     {
-        match self {
-            ConfigError::FrequencyOutOfRange => 3,
-            ConfigError::BadSource => 4,
-        }
+        self as u8
     }
 }

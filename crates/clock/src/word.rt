@@ -33,8 +33,6 @@ pub fn clock_word(source: u32, frequency: u32) -> Result<u32, ConfigError>
     if is_direct(source, frequency) {
         return Ok(DIRECT);
     }
-    match dividers(source, frequency) {
-        Some((n, pre)) => Ok(divided_word(n, pre)),
-        None => Err(ConfigError::FrequencyOutOfRange),
-    }
+    let (n, pre) = dividers(source, frequency).ok_or(ConfigError::FrequencyOutOfRange)?;
+    Ok(divided_word(n, pre))
 }

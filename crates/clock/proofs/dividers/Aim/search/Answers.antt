@@ -1,8 +1,8 @@
 use Rattle.std.proofs.Common.{◌≡◌, ◌+◌, ◌-◌, arith}
 use Rattle.clock.specs.Dividers.{Best}
 use Rattle.clock.proofs.Wins.{first, taken, kept, only}
-use Rattle.clock.proofs.dividers.search.Goals as goal
-use Rattle.clock.proofs.dividers.search.Goals.{then-error-least, else-error-least}
+use Rattle.clock.proofs.dividers.Aim.search.Goals as goal
+use Rattle.clock.proofs.dividers.Aim.search.Goals.{then-error-least, else-error-least}
 
 pub loop-n-init : goal.loop-n-init
 loop-n-init c = (first _, c.error_of-least.ensures)
@@ -18,5 +18,5 @@ loop-n-preserved c =
 pub returns : goal.returns
 returns c =
     let z : c.loop-n.n - 1 ≡ 64 = omega arith in
-    let b : Best c.args.source c.args.frequency c.loop-n.best c.pre_for.result = record { wins = rw z at c.loop-n.invariant.0; goes_with = c.pre_for.ensures } in
+    let b : Best c.args.self.source c.args.self.frequency c.loop-n.best c.pre_for.result = record { wins = rw z at c.loop-n.invariant.0; goes_with = c.pre_for.ensures } in
     record { best = b; value = only _ _ _ _ b }
