@@ -3,6 +3,6 @@ use Rattle.clock.specs.Dividers.{divisions}
 use Rattle.mirror.specs.Mirror.{mirror}
 use Rattle.worked.proofs.worked_values.Goals as goal
 
-pub returns : goal.returns
+pub returns-clause-worked : goal.returns-clause-worked
 unfolding divisions mirror
-returns c = record { worked = refl; count = refl }
+returns-clause-worked c = refl
