@@ -4,7 +4,7 @@ ghost use Rattle.clock.specs.Dividers.{Best, dividers_of, divisions, error_of, p
 
 const MAX_PRE: u32 = 16;
 
-// A source rate, and the frequency that is wanted of it.
+// A source rate, and the frequency that is wanted of it. The public calls take the two as plain numbers, as callers have them.
 #[derive(Clone, Copy)]
 struct Aim {
     source: u32,
@@ -29,7 +29,7 @@ impl Aim {
         (self.source / (self.pre_for(n) * n)).abs_diff(self.frequency)
     }
 
-    // Tries each divider from 2 to 64.
+    // Tries each divider from 2 to 64. As a `min_by_key` over the range, the proof did not close.
     fn search(self) -> (u32, u32)
         ensures best { Best self.source self.frequency result.0 result.1 }
         ensures value { result ≡ divisions self.source self.frequency }

@@ -1,4 +1,4 @@
-// The clock setting of an SPI master: the two dividers, the clock word, and the configuration that holds them.
+// The clock setting of an SPI master: the two dividers, the clock word, and why a configuration is refused.
 
 #![tactic(auto)]
 
