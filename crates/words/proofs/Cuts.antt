@@ -88,3 +88,7 @@ module _ (bs : List ℕ) where
   pub one_word : (w : List ℕ) → 0 < length w → w ≡ before blank (unblanked bs) → words bs ≡ w ∷ words (drop (length w) (unblanked bs))
   one_word [] pos e = absurd (omega arith)
   one_word (b ∷ w) pos e = words-unblanked bs ∙ split [] (unblanked bs) ∙ sym (ap (λ xs. begun xs ++ words (drop (length xs) (unblanked bs))) e)
+
+  pub left : (w : List ℕ) → w ≡ before blank (unblanked bs) → words (drop (length w) (unblanked bs)) ≡ drop 1 (words bs)
+  left [] e = ap words (ends bs (sym e)) ∙ sym (ap (drop 1) (no_word (sym e)))
+  left (b ∷ w) e = sym (ap (drop 1) (one_word (b ∷ w) (omega arith) e))

@@ -1,5 +1,5 @@
 // The words of a line, one after the other.
-ghost use Rattle.std.specs.Prelude.{◌≡◌, ◌≤◌, [], ◌∷◌, length, Ok, Err, MatchOption, nat_eq};
+ghost use Rattle.std.specs.Prelude.{◌≡◌, ◌≤◌, [], ◌∷◌, drop, length, MatchOption, MatchResult, nat_eq};
 ghost use Rattle.std.specs.Option.{option_map};
 ghost use Rattle.faults.specs.declared.fault.Expected.TheVariants.{MoreWords};
 ghost use Rattle.words.specs.Arities.{none, one, two, one_or_two, none_or_four};
@@ -7,6 +7,7 @@ ghost use Rattle.faults.specs.Readings.{ok_map};
 ghost use Rattle.words.specs.Words.{before, blank, unblanked, uncarried, uncommented, words};
 
 use faults::fault::Expected;
+use std::marker::Model;
 
 pub type Four<'a> = (&'a [u8], &'a [u8], &'a [u8], &'a [u8]);
 
@@ -14,6 +15,16 @@ pub type Four<'a> = (&'a [u8], &'a [u8], &'a [u8], &'a [u8]);
 #[derive(Drop)]
 pub struct Words<'a> {
     rest: &'a [u8],
+}
+
+// The words that are left.
+impl<'a> Model for Words<'a> {
+    ghost use Rattle.std.specs.Prelude.{ℕ, List};
+    ghost use Rattle.words.specs.Words.{words};
+
+    ghost Value = { List (List ℕ) };
+
+    ghost view = { λ s. words s.rest.now };
 }
 
 // What stands before the first `stop`, or all where there is none.
@@ -70,7 +81,7 @@ fn without_carriage_return(line: &[u8]) -> &[u8]
 
 impl<'a> Words<'a> {
     pub fn new(line: &'a [u8]) -> Words<'a>
-        ensures { words result.rest.now ≡ words (uncommented line.now) }
+        ensures { result ≡ words (uncommented line.now) }
     {
         Words {
             rest: before_first(without_carriage_return(line), b'#'),
@@ -78,25 +89,28 @@ impl<'a> Words<'a> {
     }
 
     pub fn next_word(&mut self) -> Option<&'a [u8]>
-        ensures { MatchOption result (words self.old.rest.now ≡ []) (λ w. words self.old.rest.now ≡ w.now ∷ words self.new.rest.now) }
+        ensures word { MatchOption result (self.old ≡ []) (λ w. self.old ≡ w.now ∷ self.new) }
+        ensures left { self.new ≡ drop 1 self.old }
     {
         let rest = skip_blanks(self.rest);
         let word = before_blank(rest);
         self.rest = &rest[word.len()..];
-        if word.is_empty() { None } else { Some(word) }
+        if word.is_empty() {
+            return None;
+        }
+        Some(word)
     }
 
     pub fn word(&mut self) -> Result<&'a [u8], Expected>
-        ensures { elim result [ Ok w ↦ words self.old.rest.now ≡ w.now ∷ words self.new.rest.now | Err e ↦ (words self.old.rest.now ≡ []) × (e ≡ MoreWords) ] }
+        ensures word { MatchResult result (λ w. self.old ≡ w.now ∷ self.new) (λ e. (self.old ≡ []) × (e ≡ MoreWords)) }
+        ensures left { self.new ≡ drop 1 self.old }
     {
-        match self.next_word() {
-            Some(word) => Ok(word),
-            None => Err(Expected::MoreWords),
-        }
+        self.next_word().ok_or(Expected::MoreWords)
     }
 
     pub fn end(&mut self) -> Result<(), Expected>
-        ensures { result ≡ none (words self.old.rest.now) }
+        ensures end { result ≡ none self.old }
+        ensures left { self.new ≡ drop 1 self.old }
     {
         match self.next_word() {
             Some(_) => Err(Expected::NoMoreWords),
@@ -105,7 +119,8 @@ impl<'a> Words<'a> {
     }
 
     pub fn one(&mut self) -> Result<&'a [u8], Expected>
-        ensures { ok_map (λ x. x.now) result ≡ one (words self.old.rest.now) }
+        ensures word { ok_map (λ x. x.now) result ≡ one self.old }
+        ensures left { self.new ≡ drop 2 self.old }
     {
         let first = self.word()?;
         self.end()?;
@@ -113,7 +128,8 @@ impl<'a> Words<'a> {
     }
 
     pub fn two(&mut self) -> Result<(&'a [u8], &'a [u8]), Expected>
-        ensures { ok_map (λ p. (p.0.now, p.1.now)) result ≡ two (words self.old.rest.now) }
+        ensures words { ok_map (λ p. (p.0.now, p.1.now)) result ≡ two self.old }
+        ensures left { self.new ≡ drop 3 self.old }
     {
         let first = self.word()?;
         let second = self.word()?;
@@ -122,7 +138,8 @@ impl<'a> Words<'a> {
     }
 
     pub fn one_or_two(&mut self) -> Result<(&'a [u8], Option<&'a [u8]>), Expected>
-        ensures { ok_map (λ p. (p.0.now, option_map (λ x. x.now) p.1)) result ≡ one_or_two (words self.old.rest.now) }
+        ensures words { ok_map (λ p. (p.0.now, option_map (λ x. x.now) p.1)) result ≡ one_or_two self.old }
+        ensures left { self.new ≡ drop 3 self.old }
     {
         let first = self.word()?;
         let Some(second) = self.next_word() else {
@@ -133,7 +150,8 @@ impl<'a> Words<'a> {
     }
 
     pub fn none_or_four(&mut self) -> Result<Option<Four<'a>>, Expected>
-        ensures { ok_map (option_map (λ f. (f.0.now, f.1.now, f.2.now, f.3.now))) result ≡ none_or_four (words self.old.rest.now) }
+        ensures words { ok_map (option_map (λ f. (f.0.now, f.1.now, f.2.now, f.3.now))) result ≡ none_or_four self.old }
+        ensures left { self.new ≡ drop 5 self.old }
     {
         let Some(first) = self.next_word() else {
             return Ok(None);
