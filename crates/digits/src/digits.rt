@@ -1,7 +1,6 @@
 // Numbers and bytes, as words write them.
 ghost use Rattle.std.specs.Prelude.{◌≡◌, ◌^◌, ◌<◌, IfOk, vec_items};
 ghost use Rattle.std.specs.Option.{option_map};
-ghost use Rattle.std.specs.Str.{bytes_eq};
 ghost use Rattle.digits.specs.Digits.{added, below, hex_bytes, hex_digit, hex_pair, number, numeral, pairs};
 
 use std::alloc::{AllocError, Global};
@@ -74,21 +73,13 @@ fn read_pairs(heap: Global, word: &[u8]) -> Result<Option<Vec<u8>>, AllocError>
     Ok(Some(bytes))
 }
 
-pub fn same(word: &[u8], name: &[u8]) -> bool
-    ensures { result ≡ bytes_eq word.now name.now }
-{
-    word == name
-}
-
 // The bytes that a word writes, or `None` where it is not bytes.
 pub fn read_bytes(heap: Global, word: &[u8]) -> Result<Option<Vec<u8>>, AllocError>
     ensures { IfOk result (λ o. option_map vec_items o ≡ hex_bytes word.now) }
 {
-    if same(word, b"-") {
-        return Ok(Some(Vec::new(heap)));
+    match word {
+        b"-" => Ok(Some(Vec::new(heap))),
+        [] => Ok(None),
+        _ => read_pairs(heap, word),
     }
-    if word.is_empty() {
-        return Ok(None);
-    }
-    read_pairs(heap, word)
 }
