@@ -1,5 +1,9 @@
 -- The lines of a text, and the words of a line. Assumes nothing.
-use Rattle.std.specs.Prelude.{ℕ, suc, Bool, cond, ◌||◌, List, [], ◌∷◌, ◌++◌, length, Some, None, Option, ◌==◌, nat_eq}
+use Rattle.std.specs.Prelude.{◌≡◌, ℕ, suc, Bool, cond, ◌||◌, List, [], ◌∷◌, ◌++◌, length, Some, None, Option, ◌==◌, nat_eq}
+
+-- what a test returns at each byte is what p gives
+abbrev pub Computes : (ℕ → Bool → Type 0) → (ℕ → Bool) → Type 0
+Computes returns p = (b : ℕ) (r : Bool) → returns b r → r ≡ p b
 
 -- what stands before the first byte of which p holds
 abbrev pub before : (ℕ → Bool) → List ℕ → List ℕ
@@ -51,8 +55,3 @@ words_after w (b ∷ bs) = cond (blank b) (begun w ++ words_after [] bs) (words_
 
 abbrev pub words : List ℕ → List (List ℕ)
 words bs = words_after [] bs
-
--- the blanks at the front are passed
-abbrev pub unblanked : List ℕ → List ℕ
-unblanked [] = []
-unblanked (b ∷ bs) = cond (blank b) (unblanked bs) (b ∷ bs)

@@ -1,10 +1,10 @@
 // The words of a line, one after the other.
-ghost use Rattle.std.specs.Prelude.{◌≡◌, ◌≤◌, [], ◌∷◌, drop, length, MatchOption, MatchResult, nat_eq};
+ghost use Rattle.std.specs.Prelude.{◌≡◌, ℕ, Bool, ◌≤◌, [], ◌∷◌, drop, length, MatchOption, MatchResult, nat_eq};
 ghost use Rattle.std.specs.Option.{option_map};
 ghost use Rattle.faults.specs.declared.fault.Expected.TheVariants.{MoreWords};
 ghost use Rattle.words.specs.Arities.{none, one, two, one_or_two, none_or_four};
 ghost use Rattle.faults.specs.Readings.{ok_map};
-ghost use Rattle.words.specs.Words.{before, blank, unblanked, uncarried, uncommented, words};
+ghost use Rattle.words.specs.Words.{before, blank, Computes, uncarried, uncommented, words};
 
 use faults::fault::Expected;
 use std::marker::Model;
@@ -27,46 +27,29 @@ impl<'a> Model for Words<'a> {
     ghost view = { λ s. words s.rest.now };
 }
 
+// What stands before the first byte that `stop` holds of, or all where there is none, and what is left.
+fn split_before<F: Fn(u8) -> bool>(bytes: &[u8], stop: F) -> (&[u8], &[u8])
+    requires { F.IsAlwaysCallable stop }
+    ensures front { (p : ℕ → Bool) → Computes (F.post stop) p → result.0.now ≡ before p bytes.now }
+    ensures back { result.1.now ≡ drop (length result.0.now) bytes.now }
+    ensures within { length result.0.now ≤ length bytes.now }
+{
+    let place = bytes.iter().position(|b| stop(*b)).unwrap_or(bytes.len());
+    bytes.split_at(place)
+}
+
 // What stands before the first `stop`, or all where there is none.
 pub fn before_first(bytes: &[u8], stop: u8) -> &[u8]
     ensures front { result.now ≡ before (λ b. nat_eq b stop) bytes.now }
     ensures within { length result.now ≤ length bytes.now }
 {
-    for (i, b) in bytes.iter().enumerate() {
-        if *b == stop {
-            return &bytes[0..i];
-        }
-    }
-    bytes
+    split_before(bytes, |b| b == stop).0
 }
 
 fn is_blank(b: u8) -> bool
     ensures { result ≡ blank b }
 {
     b == b' ' || b == b'\t'
-}
-
-fn skip_blanks(bytes: &[u8]) -> &[u8]
-    ensures { result.now ≡ unblanked bytes.now }
-{
-    for (i, b) in bytes.iter().enumerate() {
-        if !is_blank(*b) {
-            return &bytes[i..];
-        }
-    }
-    &[]
-}
-
-fn before_blank(bytes: &[u8]) -> &[u8]
-    ensures front { result.now ≡ before blank bytes.now }
-    ensures within { length result.now ≤ length bytes.now }
-{
-    for (i, b) in bytes.iter().enumerate() {
-        if is_blank(*b) {
-            return &bytes[0..i];
-        }
-    }
-    bytes
 }
 
 // The line without a CR at its end.
@@ -92,9 +75,9 @@ impl<'a> Words<'a> {
         ensures word { MatchOption result (self.old ≡ []) (λ w. self.old ≡ w.now ∷ self.new) }
         ensures left { self.new ≡ drop 1 self.old }
     {
-        let rest = skip_blanks(self.rest);
-        let word = before_blank(rest);
-        self.rest = &rest[word.len()..];
+        let (_, rest) = split_before(self.rest, |b| !is_blank(b));
+        let (word, rest) = split_before(rest, is_blank);
+        self.rest = rest;
         if word.is_empty() {
             return None;
         }
@@ -142,11 +125,9 @@ impl<'a> Words<'a> {
         ensures left { self.new ≡ drop 3 self.old }
     {
         let first = self.word()?;
-        let Some(second) = self.next_word() else {
-            return Ok((first, None));
-        };
+        let more = self.next_word();
         self.end()?;
-        Ok((first, Some(second)))
+        Ok((first, more))
     }
 
     pub fn none_or_four(&mut self) -> Result<Option<Four<'a>>, Expected>

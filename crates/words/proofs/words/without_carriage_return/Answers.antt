@@ -5,8 +5,5 @@ use Rattle.words.proofs.words.without_carriage_return.Goals as goal
 pub returns-in-13 : goal.returns-in-13
 returns-in-13 c = carried c.args.line.now (length c.args.line.now - 1) (search rules) (search rules)
 
-pub returns-in_default : goal.returns-in_default
-returns-in_default c = not_carried c.args.line.now (λ k e h. search rules)
-
 pub returns-in_default-2 : goal.returns-in_default-2
 returns-in_default-2 c = not_carried c.args.line.now (λ k e h. search rules)

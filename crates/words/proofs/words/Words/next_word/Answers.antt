@@ -1,30 +1,29 @@
-use Rattle.std.proofs.Common.{◌≡◌, ◌<◌, ◌∷◌, length, drop, sym, ap, ◌∙◌, arith, true-eqb, false-eqb}
-use Rattle.std.proofs.lemmas.List.{nil_from_length, take_rest}
-use Rattle.words.specs.Words.{before, blank, unblanked, words}
-use Rattle.words.proofs.Cuts.{left, no_word, one_word}
+use Rattle.std.proofs.Common.{◌<◌, not, length, drop, sym, ap, ◌∙◌, arith, rules, true-eqb, false-eqb}
+use Rattle.std.proofs.lemmas.List.{nil_from_length}
+use Rattle.words.specs.Words.{blank}
+use Rattle.words.proofs.Cuts.{left, no_word, none_left, one_word}
 use Rattle.words.proofs.words.Words.next_word.Goals as goal
 
 pub returns-then-is_empty : goal.returns-then-is_empty
 returns-then-is_empty c =
-    let bs = c.self.inside.rest.now in
-    let w = c.before_blank-word.result.now in
-    let rest = c.skip_blanks-rest.result.now in
-    let front : w ≡ before blank (unblanked bs) = c.before_blank-word.ensures.front ∙ ap (before blank) c.skip_blanks-rest.ensures in
-    let none = nil_from_length w (true-eqb _ 0 c.if-is_empty.ensures) in
+    let skip = c.split_before in
+    let cut = c.split_before-2 in
+    let blanks = skip.ensures.front (λ b. not (blank b)) (λ b r e. search rules) in
+    let word = cut.ensures.front blank (λ b r e. search rules) in
+    let none = nil_from_length cut.result.0.now (true-eqb _ 0 c.if-is_empty.ensures) in
     record {
-      word = sym c.self.view_is ∙ no_word bs (sym front ∙ none);
-      left = ap words (take_rest rest (length w) ∙ ap (drop (length w)) c.skip_blanks-rest.ensures) ∙ left bs w front ∙ ap (drop 1) c.self.view_is;
+      word = sym c.self.view_is ∙ no_word _ _ _ _ _ blanks skip.ensures.back word cut.ensures.back none;
+      left = none_left _ _ _ _ _ blanks skip.ensures.back word cut.ensures.back none ∙ ap (drop 1) c.self.view_is;
     }
 
 pub returns : goal.returns
 returns c =
-    let bs = c.self.inside.rest.now in
-    let w = c.before_blank-word.result.now in
-    let rest = c.skip_blanks-rest.result.now in
-    let front : w ≡ before blank (unblanked bs) = c.before_blank-word.ensures.front ∙ ap (before blank) c.skip_blanks-rest.ensures in
-    let some : 0 < length w = omega (arith, false-eqb _ 0 c.if-is_empty.ensures) in
-    let onward = ap words (take_rest rest (length w) ∙ ap (drop (length w)) c.skip_blanks-rest.ensures) in
+    let skip = c.split_before in
+    let cut = c.split_before-2 in
+    let blanks = skip.ensures.front (λ b. not (blank b)) (λ b r e. search rules) in
+    let word = cut.ensures.front blank (λ b r e. search rules) in
+    let some : 0 < length cut.result.0.now = omega (arith, false-eqb _ 0 c.if-is_empty.ensures) in
     record {
-      word = sym c.self.view_is ∙ one_word bs w some front ∙ ap (λ ws. w ∷ ws) (sym onward);
-      left = onward ∙ left bs w front ∙ ap (drop 1) c.self.view_is;
+      word = sym c.self.view_is ∙ one_word _ _ _ _ _ blanks skip.ensures.back word cut.ensures.back some;
+      left = left _ _ _ _ _ blanks skip.ensures.back word cut.ensures.back some ∙ ap (drop 1) c.self.view_is;
     }
