@@ -1,7 +1,7 @@
 // Numbers and bytes, as words write them.
-ghost use Rattle.std.specs.Prelude.{◌≡◌, ◌^◌, ◌<◌, IfOk, vec_items};
+ghost use Rattle.std.specs.Prelude.{◌≡◌, ◌^◌, ◌<◌, ◌≤◌, [], ◌∷◌, length, IfOk, vec_items};
 ghost use Rattle.std.specs.Option.{option_map};
-ghost use Rattle.digits.specs.Digits.{added, below, hex_bytes, hex_digit, hex_pair, number, numeral, pairs};
+ghost use Rattle.digits.specs.Digits.{added, below, hex_bytes, hex_digit, number, numeral, pairs};
 
 use std::alloc::{AllocError, Global};
 
@@ -41,10 +41,13 @@ fn read_digits(base: u32, digits: &[u8]) -> Option<u32>
 }
 
 // Two digits, the high one first.
-fn hex_pair(high: u8, low: u8) -> Option<u8>
-    ensures { result ≡ hex_pair high low }
+fn read_pair(pair: &[u8]) -> Option<u8>
+    ensures { 0 < length pair.now → length pair.now ≤ 2 → option_map (λ b. b ∷ []) result ≡ pairs pair.now }
 {
-    Some(16 * hex_digit(high)? + hex_digit(low)?)
+    let [high, low] = pair else {
+        return None;
+    };
+    Some(16 * hex_digit(*high)? + hex_digit(*low)?)
 }
 
 pub fn read_number(word: &[u8]) -> Option<u32>
@@ -60,12 +63,9 @@ pub fn read_number(word: &[u8]) -> Option<u32>
 fn read_pairs(heap: Global, word: &[u8]) -> Result<Option<Vec<u8>>, AllocError>
     ensures { IfOk result (λ o. option_map vec_items o ≡ pairs word.now) }
 {
-    if word.len() % 2 != 0 {
-        return Ok(None);
-    }
     let mut bytes = Vec::new(heap);
-    for i in 0..word.len() / 2 {
-        let Some(byte) = hex_pair(word[2 * i], word[2 * i + 1]) else {
+    for pair in word.chunks(2) {
+        let Some(byte) = read_pair(pair) else {
             return Ok(None);
         };
         bytes.push(byte)?;

@@ -76,8 +76,8 @@ impl<'a> Words<'a> {
         ensures left { self.new ≡ drop 1 self.old }
     {
         let (_, rest) = split_before(self.rest, |b| !is_blank(b));
-        let (word, rest) = split_before(rest, is_blank);
-        self.rest = rest;
+        let (word, left) = split_before(rest, is_blank);
+        self.rest = left;
         if word.is_empty() {
             return None;
         }

@@ -1,26 +1,29 @@
-use Rattle.std.proofs.Common.{◌≡◌, ◌+◌, ◌*◌, [], ◌∷◌, ◌++◌, drop, vec_items, sym, ap, ◌∙◌, arith}
+use Rattle.std.proofs.Common.{vec_items, sym, ap, ◌∙◌, rules}
+use Rattle.std.specs.Slice.Iter.{chunks_rest}
 use Rattle.digits.specs.Digits.{pairs}
-use Rattle.digits.proofs.Pairs.{with, odd, pair_more, pair_none, read_none, read_all}
+use Rattle.digits.proofs.Pairs.{ended, more, with, with_all, with_none}
 use Rattle.digits.proofs.digits.read_pairs.Goals as goal
 
-pub returns-then-word-ne0 : goal.returns-then-word-ne0
-returns-then-word-ne0 c = sym (odd c.args.word.now (omega arith))
-
-pub loop-i-init : goal.loop-i-init
-loop-i-init c = read_none (vec_items c.new-bytes.result) c.args.word.now c.new-bytes.ensures.items
+pub loop-pair-init : goal.loop-pair-init
+loop-pair-init c = record {
+  twos = search rules;
+  sofar = ap (λ xs. with xs (pairs (chunks_rest c.into_iter-pair-iterator.result))) c.new-bytes.ensures.items ∙ with_none _ ∙ ap pairs (ap chunks_rest c.into_iter-pair-iterator.ensures.into_iter_gives ∙ c.chunks-pair-items.ensures.rest);
+}
 
 pub returns-in_default : goal.returns-in_default
 returns-in_default c =
-    let ws = c.args.word.now in
-    let i = c.loop-i.i in
-    sym (sym c.loop-i.invariant ∙ pair_none (vec_items c.loop-i.bytes) ws i (omega arith) (sym c.in_default.ensures))
+    let steps = c.in-Some.ensures.steps in
+    let sofar = c.loop-pair.invariant in
+    sym (sym sofar.sofar ∙ ap (with (vec_items c.loop-pair.bytes)) (ended _ _ _ c.read_pair.result _ sofar.twos steps.1.0 steps.1.1 steps.1.2 c.read_pair.ensures c.in_default.is))
 
-pub loop-i-preserved : goal.loop-i-preserved
-loop-i-preserved c =
-    let ws = c.args.word.now in
-    let i = c.loop-i.i in
-    let pushed : vec_items c.push.new.self ≡ vec_items c.loop-i.bytes ++ c.in-Some.byte ∷ [] = c.in_ok-push.ensures.items in
-    ap (λ xs. with xs (pairs (drop (2 * (i + 1)) ws))) pushed ∙ sym (pair_more (vec_items c.loop-i.bytes) ws i (omega arith) c.in-Some.byte (sym c.in-Some.ensures)) ∙ c.loop-i.invariant
+pub loop-pair-preserved : goal.loop-pair-preserved
+loop-pair-preserved c =
+    let steps = c.in-Some.ensures.steps in
+    let sofar = c.loop-pair.invariant in
+    record {
+      twos = steps.0 ∙ sofar.twos;
+      sofar = ap (λ xs. with xs (pairs (chunks_rest c.next.new.self))) c.in_ok-push.ensures.items ∙ sym (more _ _ _ c.read_pair.result _ sofar.twos steps.1.0 steps.1.1 steps.1.2 c.read_pair.ensures (vec_items c.loop-pair.bytes) c.in-Some-read_pair.byte c.in-Some-read_pair.is) ∙ sofar.sofar;
+    }
 
 pub returns : goal.returns
-returns c = sym (sym c.loop-i.invariant ∙ read_all (vec_items c.loop-i.bytes) c.args.word.now (2 * c.loop-i.i) (omega arith))
+returns c = sym (sym c.loop-pair.invariant.sofar ∙ with_all _ _ c.in-None.ensures.steps.1.0)

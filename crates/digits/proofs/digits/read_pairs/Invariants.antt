@@ -1,7 +1,8 @@
-use Rattle.std.proofs.Common.{◌≡◌, ◌*◌, drop, vec_items}
+use Rattle.std.proofs.Common.{◌≡◌, vec_items}
+use Rattle.std.specs.Slice.Iter.{chunks_rest, chunks_size}
 use Rattle.digits.specs.Digits.{pairs}
 use Rattle.digits.proofs.Pairs.{with}
 use Rattle.digits.proofs.digits.read_pairs.Given as goal
 
-abbrev pub invariant-loop-i : goal.invariant-loop-i
-invariant-loop-i l = with (vec_items l.bytes) (pairs (drop (2 * l.i) l.word)) ≡ pairs l.word
+abbrev pub invariant-loop-pair : goal.invariant-loop-pair
+invariant-loop-pair l = record { twos : chunks_size l.pair-iterator ≡ 2; sofar : with (vec_items l.bytes) (pairs (chunks_rest l.pair-iterator)) ≡ pairs l.word }
