@@ -1,20 +1,16 @@
 -- Bytes that are read pair by pair. Assumes nothing.
 use Rattle.std.proofs.Common.{◌≡◌, ℕ, ◌<◌, ◌≤◌, min, List, [], ◌∷◌, ◌++◌, length, Some, None, Option, sym, refl, ap, ◌∙◌, arith}
 use Rattle.std.specs.Option.{option_map}
-use Rattle.std.proofs.lemmas.List.{append_assoc, append-nil, length-append, nil_from_length}
+use Rattle.std.proofs.lemmas.List.{append_assoc, length-append, nil_from_length}
 use Rattle.digits.specs.Digits.{and_then, hex_pair, pairs}
 
 -- bs was read, and the rest is left
 abbrev pub with : List ℕ → Option (List ℕ) → Option (List ℕ)
 with bs o = option_map (λ rest. bs ++ rest) o
 
-pub with_none : (o : Option (List ℕ)) → with [] o ≡ o
-with_none None = refl
-with_none (Some xs) = refl
-
 -- the first pair, of which r was read, and what follows it
 module _ (all pair rest : List ℕ) (r : Option ℕ) (n : ℕ) (two : n ≡ 2) (parts : all ≡ pair ++ rest) (size : length pair ≡ min n (length all)) (some : 0 < length all) (read : 0 < length pair → length pair ≤ 2 → option_map (λ b. b ∷ []) r ≡ pairs pair) where
-  pub parted : pairs all ≡ and_then r (λ b. option_map (λ bs. b ∷ bs) (pairs rest))
+  parted : pairs all ≡ and_then r (λ b. option_map (λ bs. b ∷ bs) (pairs rest))
   parted = ap pairs parts ∙ by pair r (omega arith) (omega arith) (λ h. nil_from_length rest (omega (arith, ap length parts, length-append pair rest))) (read (omega arith) (omega arith)) where
     by : (pair : List ℕ) (r : Option ℕ) → 0 < length pair → length pair ≤ 2 → (length pair < 2 → rest ≡ []) → option_map (λ b. b ∷ []) r ≡ pairs pair
         → pairs (pair ++ rest) ≡ and_then r (λ b. option_map (λ bs. b ∷ bs) (pairs rest))
@@ -29,14 +25,8 @@ module _ (all pair rest : List ℕ) (r : Option ℕ) (n : ℕ) (two : n ≡ 2) (
       same (Some a) (Some b) e = grind arith
     by (h ∷ l ∷ x ∷ xs) r some short none e = absurd (omega arith)
 
-  pub ended : r ≡ None → pairs all ≡ None
-  ended e = parted ∙ ap (λ o. and_then o (λ b. option_map (λ bs. b ∷ bs) (pairs rest))) e
-
   pub more : (bs : List ℕ) (b : ℕ) → r ≡ Some b → with bs (pairs all) ≡ with (bs ++ b ∷ []) (pairs rest)
   more bs b e = ap (with bs) (parted ∙ ap (λ o. and_then o (λ b. option_map (λ bs. b ∷ bs) (pairs rest))) e) ∙ by (pairs rest) where
     by : (o : Option (List ℕ)) → with bs (option_map (λ xs. b ∷ xs) o) ≡ with (bs ++ b ∷ []) o
     by None = refl
     by (Some xs) = ap Some (sym (append_assoc bs (b ∷ []) xs))
-
-pub with_all : (bs rest : List ℕ) → length rest ≡ 0 → with bs (pairs rest) ≡ Some bs
-with_all bs rest e = ap (λ xs. with bs (pairs xs)) (nil_from_length rest e) ∙ ap Some (append-nil bs)

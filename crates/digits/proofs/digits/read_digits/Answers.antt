@@ -1,7 +1,7 @@
-use Rattle.std.proofs.Common.{◌+◌, ◌^◌, ◌<◌, length, get_or, drop, sym, ap, ◌∙◌, arith, rules, false-eqb}
-use Rattle.std.proofs.lemmas.List.{drop_more, drop_all}
+use Rattle.std.proofs.Common.{◌+◌, ◌^◌, ◌<◌, length, get_or, drop, sym, ap, ◌∙◌, arith}
+use Rattle.std.proofs.lemmas.List.{drop_more}
 use Rattle.digits.specs.Digits.{below, value_after}
-use Rattle.digits.proofs.Numerals.{stops, goes, some, within}
+use Rattle.digits.proofs.Numerals.{stops, some}
 use Rattle.digits.proofs.digits.read_digits.Goals as goal
 
 pub returns-in_err-value : goal.returns-in_err-value
@@ -12,17 +12,3 @@ returns-in_err-value c =
     let here : i < length ds = omega arith in
     let left = ap (below (2 ^ 32)) (ap (value_after c.args.base c.loop-b.value) (sym (drop_more ds i 0 here)) ∙ c.loop-b.invariant.1) in
     c.from_residual.ensures ∙ sym (some c.args.base ds long ∙ sym left ∙ stops c.args.base c.loop-b.value (get_or ds i 0) (drop (i + 1) ds) c.requires (sym c.in_err-value.ensures))
-
-pub loop-b-preserved : goal.loop-b-preserved
-loop-b-preserved c =
-    let ds = c.args.digits.now in
-    let i = c.loop-b.b-index in
-    let here : i < length ds = omega arith in
-    (search rules, sym (goes c.args.base c.loop-b.value (get_or ds i 0) (drop (i + 1) ds) c.requires _ c.in_ok-value.ensures) ∙ ap (value_after c.args.base c.loop-b.value) (sym (drop_more ds i 0 here)) ∙ c.loop-b.invariant.1)
-
-pub returns : goal.returns
-returns c =
-    let ds = c.args.digits.now in
-    let long : 0 < length ds = omega (arith, false-eqb _ 0 c.if-is_empty.ensures) in
-    let left = ap (below (2 ^ 32)) (ap (value_after c.args.base c.loop-b.value) (sym (drop_all c.loop-b.b-index ds (omega arith))) ∙ c.loop-b.invariant.1) in
-    sym (some c.args.base ds long ∙ sym left ∙ within c.loop-b.value c.loop-b.invariant.0)
