@@ -3,14 +3,12 @@ ghost use Rattle.std.specs.Prelude.{◌≡◌, vec_items};
 ghost use Rattle.std.specs.Option.{option_map};
 ghost use Rattle.scenario.specs.Models.{call_model, line_model, statement_model};
 ghost use Rattle.faults.specs.Readings.{Reads, read_then};
-ghost use Rattle.scenario.specs.Statements.{board_from, board_given, call_of, held, keyword, line_kind, line_of, line_statement, relay_line, said_by, statement};
+ghost use Rattle.scenario.specs.Statements.{board_from, board_given, call_of, held, line_of, line_statement, relay_line, said_by, statement};
 ghost use Rattle.scenario.specs.declared.statement.CallName.TheVariants.{BusTransfer};
 ghost use Rattle.words.specs.Arities.{none_or_four, one};
 ghost use Rattle.values.specs.Values.{bytes_of};
-ghost use Rattle.words.specs.Words.{words as words_of};
 
 use crate::statement::{BoardSetup, Call, CallName, Keyword, LineKind, LineSetup, Statement};
-use digits::digits::same;
 use faults::fault::{Expected, Refusal};
 use std::alloc::Global;
 use values::{bytes, count, eight_bytes, exact_bytes, number, one_byte, slot};
@@ -20,48 +18,8 @@ const SHORTEST: u32 = 1;
 
 const LONGEST: u32 = 16;
 
-// The statement that a word names.
-pub fn keyword_of(word: &[u8]) -> Option<Keyword>
-    ensures { result ≡ keyword word.now }
-{
-    if same(word, b"line") {
-        Some(Keyword::Line)
-    } else if same(word, b"source") {
-        Some(Keyword::Source)
-    } else if same(word, b"bus_write") {
-        Some(Keyword::Call(CallName::BusWrite))
-    } else if same(word, b"bus_read") {
-        Some(Keyword::Call(CallName::BusRead))
-    } else if same(word, b"bus_transfer") {
-        Some(Keyword::Call(CallName::BusTransfer))
-    } else if same(word, b"transfer_in_place") {
-        Some(Keyword::Call(CallName::TransferInPlace))
-    } else if same(word, b"flush") {
-        Some(Keyword::Call(CallName::Flush))
-    } else if same(word, b"clock") {
-        Some(Keyword::Call(CallName::Clock))
-    } else {
-        None
-    }
-}
-
-// The kind of line that a word names.
-pub fn line_kind_of(word: &[u8]) -> Option<LineKind>
-    ensures { result ≡ line_kind word.now }
-{
-    if same(word, b"relay") {
-        Some(LineKind::Relay)
-    } else if same(word, b"script") {
-        Some(LineKind::Script)
-    } else if same(word, b"board") {
-        Some(LineKind::Board)
-    } else {
-        None
-    }
-}
-
 fn one_bytes(heap: Global, words: &mut Words) -> Result<Vec<u8>, Refusal>
-    ensures { Reads vec_items result (read_then (one (words_of words.old.rest.now)) bytes_of) }
+    ensures { Reads vec_items result (read_then (one words.old) bytes_of) }
 {
     let word = words.one()?;
     bytes(heap, word)
@@ -78,7 +36,7 @@ fn read_held(heap: Global, len: usize, given: Option<&[u8]>) -> Result<Vec<u8>, 
 }
 
 fn read_relay(heap: Global, words: &mut Words) -> Result<Vec<u8>, Refusal>
-    ensures { Reads vec_items result (relay_line (words_of words.old.rest.now)) }
+    ensures { Reads vec_items result (relay_line words.old) }
 {
     let (len, given) = words.one_or_two()?;
     let len = number(len)?.clamp(SHORTEST, LONGEST);
@@ -101,7 +59,7 @@ fn read_board_given(heap: Global, given: Four) -> Result<BoardSetup, Refusal>
 }
 
 fn read_board(heap: Global, words: &mut Words) -> Result<BoardSetup, Refusal>
-    ensures { Reads (λ b. b) result (read_then (none_or_four (words_of words.old.rest.now)) board_from) }
+    ensures { Reads (λ b. b) result (read_then (none_or_four words.old) board_from) }
 {
     match words.none_or_four()? {
         Some(given) => read_board_given(heap, given),
@@ -110,7 +68,7 @@ fn read_board(heap: Global, words: &mut Words) -> Result<BoardSetup, Refusal>
 }
 
 fn read_line_of(heap: Global, kind: LineKind, words: &mut Words) -> Result<LineSetup, Refusal>
-    ensures { Reads line_model result (line_of kind (words_of words.old.rest.now)) }
+    ensures { Reads line_model result (line_of kind words.old) }
 {
     match kind {
         LineKind::Relay => Ok(LineSetup::Relay(read_relay(heap, words)?)),
@@ -120,19 +78,14 @@ fn read_line_of(heap: Global, kind: LineKind, words: &mut Words) -> Result<LineS
 }
 
 fn read_line_setup(heap: Global, words: &mut Words) -> Result<LineSetup, Refusal>
-    ensures { Reads line_model result (line_statement (words_of words.old.rest.now)) }
+    ensures { Reads line_model result (line_statement words.old) }
 {
-    let Some(word) = words.next_word() else {
-        return Err(Refusal::Unread(Expected::LineKind));
-    };
-    let Some(kind) = line_kind_of(word) else {
-        return Err(Refusal::Unread(Expected::LineKind));
-    };
-    read_line_of(heap, kind, words)
+    let word = words.next_word().ok_or(Expected::LineKind)?;
+    read_line_of(heap, LineKind::try_from(word)?, words)
 }
 
 fn read_transfer(heap: Global, words: &mut Words) -> Result<Call, Refusal>
-    ensures { Reads call_model result (call_of BusTransfer (words_of words.old.rest.now)) }
+    ensures { Reads call_model result (call_of BusTransfer words.old) }
 {
     let (places, sent) = words.two()?;
     let places = count(places)?;
@@ -140,7 +93,7 @@ fn read_transfer(heap: Global, words: &mut Words) -> Result<Call, Refusal>
 }
 
 fn read_call(heap: Global, name: CallName, words: &mut Words) -> Result<Call, Refusal>
-    ensures { Reads call_model result (call_of name (words_of words.old.rest.now)) }
+    ensures { Reads call_model result (call_of name words.old) }
 {
     match name {
         CallName::BusWrite => Ok(Call::BusWrite(one_bytes(heap, words)?)),
@@ -156,7 +109,7 @@ fn read_call(heap: Global, name: CallName, words: &mut Words) -> Result<Call, Re
 }
 
 fn read_named(heap: Global, name: Keyword, words: &mut Words) -> Result<Statement, Refusal>
-    ensures { Reads statement_model result (said_by name (words_of words.old.rest.now)) }
+    ensures { Reads statement_model result (said_by name words.old) }
 {
     match name {
         Keyword::Line => Ok(Statement::Line(read_line_setup(heap, words)?)),
@@ -167,13 +120,11 @@ fn read_named(heap: Global, name: Keyword, words: &mut Words) -> Result<Statemen
 
 // `None` where there is no word.
 pub fn read_statement(heap: Global, words: &mut Words) -> Result<Option<Statement>, Refusal>
-    ensures { Reads (option_map statement_model) result (statement (words_of words.old.rest.now)) }
+    ensures { Reads (option_map statement_model) result (statement words.old) }
 {
     let Some(word) = words.next_word() else {
         return Ok(None);
     };
-    let Some(name) = keyword_of(word) else {
-        return Err(Refusal::Unread(Expected::Name));
-    };
+    let name = Keyword::try_from(word)?;
     Ok(Some(read_named(heap, name, words)?))
 }

@@ -1,6 +1,10 @@
 // What a line of a scenario can say.
 ghost use Rattle.std.specs.Prelude.{◌≡◌};
-ghost use Rattle.scenario.specs.Statements.{fresh_board};
+ghost use Rattle.faults.specs.declared.fault.Expected.TheVariants.{Name, LineKind as NoLineKind};
+ghost use Rattle.faults.specs.Readings.{wanted};
+ghost use Rattle.scenario.specs.Statements.{fresh_board, keyword, line_kind};
+
+use faults::fault::Expected;
 
 #[derive(Clone, Copy)]
 pub struct BoardSetup {
@@ -67,9 +71,44 @@ pub enum Keyword {
     Call(CallName),
 }
 
+impl TryFrom<&[u8]> for Keyword {
+    type Error = Expected;
+
+    ghost try_from_gives = { λ w r. r ≡ wanted Name (keyword w.now) };
+
+    fn try_from(word: &[u8]) -> Result<Keyword, Expected> {
+        match word {
+            b"line" => Ok(Keyword::Line),
+            b"source" => Ok(Keyword::Source),
+            b"bus_write" => Ok(Keyword::Call(CallName::BusWrite)),
+            b"bus_read" => Ok(Keyword::Call(CallName::BusRead)),
+            b"bus_transfer" => Ok(Keyword::Call(CallName::BusTransfer)),
+            b"transfer_in_place" => Ok(Keyword::Call(CallName::TransferInPlace)),
+            b"flush" => Ok(Keyword::Call(CallName::Flush)),
+            b"clock" => Ok(Keyword::Call(CallName::Clock)),
+            _ => Err(Expected::Name),
+        }
+    }
+}
+
 #[derive(Clone, Copy)]
 pub enum LineKind {
     Relay,
     Script,
     Board,
+}
+
+impl TryFrom<&[u8]> for LineKind {
+    type Error = Expected;
+
+    ghost try_from_gives = { λ w r. r ≡ wanted NoLineKind (line_kind w.now) };
+
+    fn try_from(word: &[u8]) -> Result<LineKind, Expected> {
+        match word {
+            b"relay" => Ok(LineKind::Relay),
+            b"script" => Ok(LineKind::Script),
+            b"board" => Ok(LineKind::Board),
+            _ => Err(Expected::LineKind),
+        }
+    }
 }
