@@ -1,8 +1,44 @@
 -- One line of a scenario more. Assumes nothing.
-use Rattle.std.proofs.Common.{◌≡◌, ℕ, ◌+◌, List, ◌∷◌, Ok, ap}
-use Rattle.faults.specs.Readings.{Reading}
-use Rattle.scenario.specs.Scenarios.{Sofar, go_on, lines_from, with_text}
+use Rattle.std.proofs.Common.{◌≡◌, ℕ, ◌+◌, ◌<◌, List, ◌∷◌, Ok, Err, get_or, drop, length, sym, ap, ◌∙◌, arith}
+use Rattle.std.specs.List.{enumerate_from}
+use Rattle.std.proofs.lemmas.List.{at_drop_more}
+use Rattle.std.proofs.lemmas.List.FromFn.{length-enumerate_from, get_or-enumerate_from}
+use Rattle.faults.specs.declared.fault.Expected.{Expected}
+use Rattle.faults.specs.declared.fault.Refusal.{Refusal}
+use Rattle.faults.specs.declared.fault.Refusal.TheVariants.{Unread, NoMemory}
+use Rattle.faults.specs.Faults.{fault_at}
+use Rattle.faults.specs.Readings.{Reading, Reads}
+use Rattle.scenario.specs.Scenarios.{Sofar, finished, go_on, lines_from, start, with_text}
+use Rattle.scenario.specs.Wholes.{ReadAs}
+use Rattle.words.specs.Words.{lines}
 
-module _ (n : ℕ) (s : Sofar) (l : List ℕ) (ls : List (List ℕ)) where
-  pub line_read : (t : Sofar) → with_text s l ≡ Ok t → lines_from n s (l ∷ ls) ≡ lines_from (n + 1) t ls
-  line_read t e = ap (λ (m : Reading Sofar). go_on n m (λ u. lines_from (n + 1) u ls)) e
+module _ (ls : List (List ℕ)) (k i : ℕ) (l : List ℕ) where
+  -- l is the next of the lines, and i counts those before it
+  pub record Next : Type 0 where
+    pub number : i ≡ k
+    pub cut : drop k ls ≡ l ∷ drop (k + 1) ls
+
+  pub next_line : (k < length (enumerate_from 0 ls)) × ((i, l) ≡ get_or (enumerate_from 0 ls) k (i, l)) → Next
+  next_line h =
+      let within : k < length ls = omega (arith, h.0, length-enumerate_from 0 ls) in
+      let same = h.1 ∙ get_or-enumerate_from 0 ls k (i, l) within in
+      record {
+        number = omega (arith, ap (λ (p : ℕ × List ℕ). p.0) same);
+        cut = at_drop_more (λ (xs : List (List ℕ)). xs) ls k l within ∙ ap (λ (x : List ℕ). x ∷ drop (k + 1) ls) (sym (ap (λ (p : ℕ × List ℕ). p.1) same));
+      }
+
+  module _ (s : Sofar) (next : Next) where
+    opened : (m : Reading Sofar) → with_text s l ≡ m → lines_from (k + 1) s (drop k ls) ≡ go_on (k + 1) m (λ u. lines_from (k + 1 + 1) u (drop (k + 1) ls))
+    opened m e = ap (lines_from (k + 1) s) next.cut ∙ ap (λ (v : Reading Sofar). go_on (k + 1) v (λ u. lines_from (k + 1 + 1) u (drop (k + 1) ls))) e
+
+    pub line_read : (t : Sofar) → with_text s l ≡ Ok t → lines_from (k + 1) s (drop k ls) ≡ lines_from (k + 1 + 1) t (drop (k + 1) ls)
+    line_read t e = opened (Ok t) e
+
+    pub line_refused : (x : Expected) → with_text s l ≡ Err x → lines_from (k + 1) s (drop k ls) ≡ Err (i + 1, x)
+    line_refused x e = opened (Err x) e ∙ ap (λ (n : ℕ). Err (n + 1, x)) (sym next.number)
+
+-- a line that is refused is the first that is wrong
+pub refused : (text : List ℕ) (k i : ℕ) (l : List ℕ) (s t : Sofar) (r : Refusal) → Next (lines text) k i l → Reads {X = Unit {0}} (λ _. t) (Err r) (with_text s l)
+    → lines_from (k + 1) s (drop k (lines text)) ≡ lines_from 1 start (lines text) → ReadAs (Err (fault_at r (i + 1))) text
+refused text k i l s t (Unread x) next e same = ap finished (sym same ∙ line_refused (lines text) k i l s next x e)
+refused text k i l s t NoMemory next e same = tt

@@ -3,7 +3,7 @@ use Rattle.std.specs.Prelude.{◌≡◌, ℕ, List, map, Ok, Err, vec_items, Res
 use Rattle.std.specs.Option.{option_map}
 use Rattle.faults.specs.declared.fault.Fault.{Fault}
 use Rattle.faults.specs.declared.fault.Fault.TheVariants.{Bad, Memory}
-use Rattle.scenario.specs.declared.whole.Reader.{Reader}
+use Rattle.scenario.specs.declared.whole.Reader.TheInside.{Inside}
 use Rattle.scenario.specs.declared.whole.Scenario.{Scenario}
 use Rattle.scenario.specs.declared.whole.Step.{Step}
 use Rattle.scenario.specs.Models.{call_model, line_model}
@@ -13,7 +13,7 @@ use Rattle.scenario.specs.Statements.{Line, Act}
 abbrev pub step_model : Step → ℕ × Act
 step_model s = (s.source, call_model s.call)
 
-abbrev pub sofar : Reader → Sofar
+abbrev pub sofar : Inside → Sofar
 sofar r = record { given = option_map line_model r.line; rate = r.source; steps = map step_model (vec_items r.steps) }
 
 abbrev pub scenario_model : Scenario → Line × List (ℕ × Act)

@@ -11,7 +11,7 @@ ghost use Rattle.values.specs.Values.{bytes_of};
 use crate::statement::{BoardSetup, Call, CallName, Keyword, LineKind, LineSetup, Statement};
 use faults::fault::{Expected, Refusal};
 use std::alloc::Global;
-use values::{bytes, count, eight_bytes, exact_bytes, number, one_byte, slot};
+use values::{byte_array, bytes, count, exact_bytes, number, slot};
 use words::words::{Four, Words};
 
 const SHORTEST: u32 = 1;
@@ -46,9 +46,9 @@ fn read_relay(heap: Global, words: &mut Words) -> Result<Vec<u8>, Refusal>
 fn read_board_given(heap: Global, given: Four) -> Result<BoardSetup, Refusal>
     ensures { Reads (λ b. b) result (board_given (given.entry.0.now, given.entry.1.now, given.entry.2.now, given.entry.3.now)) }
 {
-    let holders = eight_bytes(heap, given.0)?;
-    let previous = eight_bytes(heap, given.1)?;
-    let reply = one_byte(heap, given.2)?;
+    let holders = byte_array(heap, given.0)?;
+    let previous = byte_array(heap, given.1)?;
+    let [reply] = byte_array::<1>(heap, given.2)?;
     let awaited = slot(given.3)?;
     Ok(BoardSetup {
         holders,

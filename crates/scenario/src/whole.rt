@@ -1,19 +1,18 @@
 // A whole scenario.
-ghost use Rattle.std.specs.Prelude.{◌≡◌, ◌≤◌, ◌∷◌, length, IfOk, Ok};
-ghost use Rattle.std.specs.Option.{option_map};
+ghost use Rattle.std.specs.Prelude.{◌≡◌, IfOk, Ok};
 ghost use Rattle.scenario.specs.Models.{line_model, statement_model};
 ghost use Rattle.faults.specs.Readings.{Reads};
 ghost use Rattle.scenario.specs.Scenarios.{finished, start, with_line, with_said, with_text};
 ghost use Rattle.scenario.specs.Tales.{Tells};
-ghost use Rattle.scenario.specs.Wholes.{ReadAs, scenario_model, sofar};
+ghost use Rattle.scenario.specs.Wholes.{ReadAs, scenario_model};
 ghost use Rattle.scenario.specs.Wrongs.{NamesFirst};
-ghost use Rattle.words.specs.Words.{left_of, lines, lines_of};
 
 use crate::read::read_statement;
 use crate::statement::{BoardSetup, Call, LineSetup, Statement};
 use faults::fault::{Expected, Fault, Refusal};
 use std::alloc::Global;
-use words::words::{Words, before_first};
+use std::marker::Model;
+use words::words::Words;
 
 const DEFAULT_SOURCE: u32 = 80_000_000;
 
@@ -33,16 +32,28 @@ pub struct Scenario {
 // What the lines so far say.
 #[derive(Drop)]
 struct Reader {
+    heap: Global,
     line: Option<LineSetup>,
     source: u32,
     steps: Vec<Step>,
 }
 
+impl Model for Reader {
+    ghost use Rattle.scenario.specs.Scenarios.{Sofar};
+
+    ghost Value = { Sofar };
+
+    ghost use Rattle.scenario.specs.Wholes.{sofar};
+
+    ghost view = { sofar };
+}
+
 impl Reader {
     fn new(heap: Global) -> Reader
-        ensures { sofar result ≡ start }
+        ensures { result ≡ start }
     {
         Reader {
+            heap,
             line: None,
             source: DEFAULT_SOURCE,
             steps: Vec::new(heap),
@@ -50,20 +61,20 @@ impl Reader {
     }
 
     fn set_line(&mut self, line: LineSetup) -> Result<(), Refusal>
-        ensures { Reads (λ _. sofar self.new) result (with_line (sofar self.old) (line_model line)) }
+        ensures { Reads (λ _. self.new) result (with_line self.old (line_model line)) }
     {
         if self.line.is_some() {
-            return Err(Refusal::Unread(Expected::OneLine));
+            return Err(Expected::OneLine.into());
         }
         if !self.steps.is_empty() {
-            return Err(Refusal::Unread(Expected::LineBeforeCalls));
+            return Err(Expected::LineBeforeCalls.into());
         }
         self.line = Some(line);
         Ok(())
     }
 
     fn take(&mut self, statement: Statement) -> Result<(), Refusal>
-        ensures { Reads (λ _. sofar self.new) result (with_said (sofar self.old) (statement_model statement)) }
+        ensures { Reads (λ _. self.new) result (with_said self.old (statement_model statement)) }
     {
         match statement {
             Statement::Line(line) => self.set_line(line),
@@ -82,10 +93,10 @@ impl Reader {
     }
 
     // One line more.
-    fn read_line(&mut self, heap: Global, line: &[u8]) -> Result<(), Refusal>
-        ensures { Reads (λ _. sofar self.new) result (with_text (sofar self.old) line.now) }
+    fn read_line(&mut self, line: &[u8]) -> Result<(), Refusal>
+        ensures { Reads (λ _. self.new) result (with_text self.old line.now) }
     {
-        match read_statement(heap, &mut Words::new(line))? {
+        match read_statement(self.heap, &mut Words::new(line))? {
             Some(statement) => self.take(statement),
             None => Ok(()),
         }
@@ -93,30 +104,13 @@ impl Reader {
 
     // Without a line statement: a fresh board.
     fn finish(self) -> Scenario
-        ensures { Ok (scenario_model result) ≡ finished (Ok (sofar self)) }
+        ensures { Ok (scenario_model result) ≡ finished (Ok self) }
     {
-        let Reader {
-            line,
-            source: _,
-            steps,
-        } = self;
         Scenario {
-            line: line.unwrap_or(LineSetup::Board(BoardSetup::fresh())),
-            steps,
+            line: self.line.unwrap_or(LineSetup::Board(BoardSetup::fresh())),
+            steps: self.steps,
         }
     }
-}
-
-// The first line, and what follows its LF.
-fn first_line(text: &[u8]) -> (&[u8], Option<&[u8]>)
-    ensures whole { lines text.now ≡ result.0.now ∷ lines_of (option_map (λ x. x.now) result.1) }
-    ensures less { left_of (option_map (λ x. x.now) result.1) ≤ length text.now }
-{
-    let line = before_first(text, b'\n');
-    if line.len() == text.len() {
-        return (line, None);
-    }
-    (line, Some(&text[line.len() + 1..]))
 }
 
 pub fn read_scenario(heap: Global, text: &[u8]) -> Result<Scenario, Fault>
@@ -125,14 +119,9 @@ pub fn read_scenario(heap: Global, text: &[u8]) -> Result<Scenario, Fault>
     ensures tells { IfOk result (λ s. Tells text.now (scenario_model s)) }
 {
     let mut reader = Reader::new(heap);
-    let mut number: usize = 0;
-    let mut left = Some(text);
-    while let Some(rest) = left {
-        let (line, after) = first_line(rest);
-        number += 1;
-        match reader.read_line(heap, line) {
-            Ok(()) => left = after,
-            Err(refusal) => return Err(refusal.at(number)),
+    for (i, line) in text.split(|b| *b == b'\n').enumerate() {
+        if let Err(refusal) = reader.read_line(line) {
+            return Err(refusal.at(i + 1));
         }
     }
     Ok(reader.finish())

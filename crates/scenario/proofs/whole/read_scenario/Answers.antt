@@ -1,37 +1,42 @@
-use Rattle.std.proofs.Common.{ℕ, ◌+◌, List, Err, Option, sym, ap, ◌∙◌, arith, Bor, rules}
-use Rattle.std.specs.Option.{option_map}
+use borrow.Author.Tests.{tests}
+use Rattle.std.proofs.Common.{ℕ, ◌+◌, ◌≤◌, List, drop, Err, sym, ap, ◌∙◌, arith, rules, length, eqb}
+use Rattle.std.proofs.lemmas.List.{length_push, at_drop_all}
+use Rattle.std.proofs.lemmas.List.FromFn.{length-enumerate_from}
+use Rattle.std.proofs.lemmas.Iterator.Consumers.{YieldsList-turn, YieldsList-end}
 use Rattle.scenario.specs.Scenarios.{finished, lines_from}
-use Rattle.scenario.specs.Wholes.{ReadAs, scenario_model, sofar}
-use Rattle.words.specs.Words.{left_of, lines_of}
+use Rattle.scenario.specs.Wholes.{ReadAs, scenario_model}
+use Rattle.words.specs.Words.{lines}
+use Rattle.scenario.proofs.Ends.{YieldsList-from_lines}
 use Rattle.scenario.proofs.Refusals.{names_first}
 use Rattle.scenario.proofs.Tellings.{tells}
-use Rattle.scenario.proofs.Turns.{line_read}
+use Rattle.scenario.proofs.Turns.{next_line, line_read, refused}
 use Rattle.scenario.proofs.whole.read_scenario.Goals as goal
 
-pub loop-left-preserved : goal.loop-left-preserved
-loop-left-preserved c =
-    let n = c.loop-left.number + 1 in
-    let s = sofar c.loop-left.reader in
-    let l = c.first_line.result.0.now in
-    let ls = lines_of (option_map (λ x. x.now) c.first_line.result.1) in
-    let open-lines = ap (λ (o : Option (Bor (List ℕ))). lines_of (option_map (λ x. x.now) o)) c.in-Some.is ∙ c.first_line.ensures.whole in
-    let open-left = ap (λ (o : Option (Bor (List ℕ))). left_of (option_map (λ x. x.now) o)) c.in-Some.is in (
-      sym (line_read n s l ls (sofar c.read_line.new.self) c.in-Ok.ensures) ∙ sym (ap (lines_from n s) open-lines) ∙ c.loop-left.invariant.0,
-      omega (arith, open-left, c.first_line.ensures.less, c.loop-left.invariant.1),
-    )
-
-pub loop-left-smaller : goal.loop-left-smaller
-loop-left-smaller c =
-    let open-left = ap (λ (o : Option (Bor (List ℕ))). left_of (option_map (λ x. x.now) o)) c.in-Some.is in
-    omega (arith, open-left, c.first_line.ensures.less)
-
-pub returns : goal.returns
-returns c =
-    let open-lines = ap (λ (o : Option (Bor (List ℕ))). lines_of (option_map (λ x. x.now) o)) c.in_default.is in
-    let whole = ap finished (sym c.loop-left.invariant.0 ∙ ap (lines_from (c.loop-left.number + 1) (sofar c.loop-left.reader)) open-lines) ∙ sym c.finish.ensures in
-    record { reads = whole; first = tt; tells = tells c.args.text.now (scenario_model c.finish.result) whole }
+pub loop-i-preserved : goal.loop-i-preserved
+loop-i-preserved c =
+    let road = YieldsList-from_lines _ c.args.text.now (cc) (cc) (cc) (cc) (λ x r q k. search (rules, tests)) in
+    let turn = YieldsList-turn road c.loop-i.yielded _ c.loop-i.yielded_by _ _ _ c.in-Some.is c.next.ensures.steps in
+    let k = length c.loop-i.yielded in
+    let next = next_line (lines c.args.text.now) k c.in-Some.i c.in-Some.line.now turn in
+    let more = line_read (lines c.args.text.now) k c.in-Some.i c.in-Some.line.now c.loop-i.reader next c.read_line.new.self c.in_default.ensures in
+    record { read = rw (length_push c.loop-i.yielded (c.in-Some.i, c.in-Some.line)) (sym more ∙ c.loop-i.invariant.read); next = search rules; ends = search rules }
 
 pub returns-in-Err : goal.returns-in-Err
 returns-in-Err c =
-    let told : ReadAs (Err c.at.result) c.args.text.now = search rules in
-    record { reads = told; first = names_first (Err c.at.result) c.args.text.now told; tells = tt }
+    let text = c.args.text.now in
+    let road = YieldsList-from_lines _ text (cc) (cc) (cc) (cc) (λ x r q k. search (rules, tests)) in
+    let turn = YieldsList-turn road c.loop-i.yielded _ c.loop-i.yielded_by _ _ _ c.in-Some.is c.next.ensures.steps in
+    let k = length c.loop-i.yielded in
+    let next = next_line (lines text) k c.in-Some.i c.in-Some.line.now turn in
+    let told : ReadAs (Err c.at.result) text = rw c.at.ensures (refused text k c.in-Some.i c.in-Some.line.now c.loop-i.reader c.read_line.new.self c.in-Err.refusal next c.in-Err.ensures c.loop-i.invariant.read) in
+    record { reads = told; first = names_first (Err c.at.result) text told; tells = tt }
+
+pub returns : goal.returns
+returns c =
+    let text = c.args.text.now in
+    let road = YieldsList-from_lines _ text (cc) (cc) (cc) (cc) (λ x r q k. search (rules, tests)) in
+    let end = YieldsList-end road c.loop-i.yielded _ c.loop-i.yielded_by _ _ c.in-None.is c.next.ensures.steps in
+    let k = length c.loop-i.yielded in
+    let over : length (lines text) ≤ k = omega (arith, end.1, length-enumerate_from 0 (lines text)) in
+    let told = ap finished (sym c.loop-i.invariant.read ∙ at_drop_all (lines_from (k + 1) c.loop-i.reader) (lines text) k over) ∙ sym c.finish.ensures in
+    record { reads = told; first = tt; tells = tells text (scenario_model c.finish.result) told }
