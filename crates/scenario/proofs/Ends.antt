@@ -1,5 +1,5 @@
 -- The parts of a text between its LFs are its lines. Assumes nothing.
-use Rattle.std.proofs.Common.{◌≡◌, ℕ, Bool, false, cond, eqb, List, [], ◌∷◌, Bor, refl, sym, subst, ap, ◌∙◌}
+use Rattle.std.proofs.Common.{◌≡◌, ℕ, Bool, false, cond, eqb, List, [], ◌∷◌, Bor, refl, subst, ap, ◌∙◌}
 use denote.Param.Members.{Mut}
 use Rattle.std.specs.Fn.{CalledAt}
 use Rattle.std.specs.Iterator.Adapters.{enumerate_source, enumerate_count, enumerate_steps}
@@ -28,4 +28,4 @@ pub YieldsList-from_lines : {F : Type 0} {s : Enumerate (Split ℕ F)} (g : Mut 
     → YieldsList {B = ℕ × List ℕ} (enumerate_steps (split_steps g)) (λ p. (p.0, p.1.now)) s (enumerate_from 0 (lines text))
 YieldsList-from_lines {s = s} g text rest done closure count tests =
     subst (λ (ls : List (List ℕ)). YieldsList {B = ℕ × List ℕ} (enumerate_steps (split_steps g)) (λ p. (p.0, p.1.now)) s (enumerate_from 0 ls)) (parts_lines text)
-      (YieldsList-from_enumerate (YieldsList-from_slice_split g (λ b. eqb b 0x0A) text rest done closure tests) count)
+    (YieldsList-from_enumerate (YieldsList-from_slice_split g (λ b. eqb b 0x0A) text rest done closure tests) count)

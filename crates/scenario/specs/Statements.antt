@@ -2,7 +2,8 @@
 use Rattle.std.specs.Prelude.{ℕ, min, max, cond, List, [], ◌∷◌, replicate, Some, None, Ok, Err, codes, Option, slice_index}
 use Rattle.std.specs.Str.{bytes_eq}
 use Rattle.faults.specs.declared.fault.Expected.TheVariants.{Name, LineKind}
-use Rattle.scenario.specs.declared.statement.BoardSetup.{BoardSetup}
+use Rattle.board.specs.declared.pump.Board as boards
+use Rattle.board.specs.Board.{free, rows}
 use Rattle.scenario.specs.declared.statement.CallName.{CallName}
 use Rattle.scenario.specs.declared.statement.CallName.TheVariants.{BusWrite, BusRead, BusTransfer, TransferInPlace, Flush, Clock}
 use Rattle.scenario.specs.declared.statement.Keyword as words
@@ -16,7 +17,7 @@ use Rattle.values.specs.Values.{bytes_of, count_of, exactly, number_of, slot_of}
 pub data Line : Type 0 where
   relay : List ℕ → Line
   script : List ℕ → Line
-  board : BoardSetup → Line
+  board : boards.Board → Line
 
 pub data Act : Type 0 where
   bus_write : List ℕ → Act
@@ -62,18 +63,19 @@ held n (Some w) = exactly n w
 abbrev pub relay_line : List (List ℕ) → Reading (List ℕ)
 relay_line ws = read_then (one_or_two ws) (λ p. read_then (number_of p.0) (λ n. held (clamped n) p.1))
 
-abbrev pub fresh_board : BoardSetup
-fresh_board = record { holders = replicate 8 0; previous = replicate 8 0; reply = 0; awaited = None }
+-- the slots are free, and none is awaited
+abbrev pub fresh_board : boards.Board
+fresh_board = record { slots = replicate 8 free; reply = 0; awaited = None }
 
 -- HOLDERS PREVIOUS REPLY AWAITED
-abbrev pub board_given : List ℕ × List ℕ × List ℕ × List ℕ → Reading BoardSetup
+abbrev pub board_given : List ℕ × List ℕ × List ℕ × List ℕ → Reading boards.Board
 board_given f =
     read_then (exactly 8 f.0) (λ hs.
     read_then (exactly 8 f.1) (λ ps.
     read_then (exactly 1 f.2) (λ rs.
-    ok_map (λ a. record { holders = hs; previous = ps; reply = slice_index rs 0; awaited = a }) (slot_of f.3))))
+    ok_map (λ a. record { slots = rows hs ps; reply = slice_index rs 0; awaited = a }) (slot_of f.3))))
 
-abbrev pub board_from : Option (List ℕ × List ℕ × List ℕ × List ℕ) → Reading BoardSetup
+abbrev pub board_from : Option (List ℕ × List ℕ × List ℕ × List ℕ) → Reading boards.Board
 board_from None = Ok fresh_board
 board_from (Some f) = board_given f
 

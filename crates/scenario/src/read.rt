@@ -8,7 +8,8 @@ ghost use Rattle.scenario.specs.declared.statement.CallName.TheVariants.{BusTran
 ghost use Rattle.words.specs.Arities.{none_or_four, one};
 ghost use Rattle.values.specs.Values.{bytes_of};
 
-use crate::statement::{BoardSetup, Call, CallName, Keyword, LineKind, LineSetup, Statement};
+use crate::statement::{Call, CallName, Keyword, LineKind, LineSetup, Statement};
+use board::pump::{Board, slot_table};
 use faults::fault::{Expected, Refusal};
 use std::alloc::Global;
 use values::{byte_array, bytes, count, exact_bytes, number, slot};
@@ -43,27 +44,26 @@ fn read_relay(heap: Global, words: &mut Words) -> Result<Vec<u8>, Refusal>
     read_held(heap, len as usize, given)
 }
 
-fn read_board_given(heap: Global, given: Four) -> Result<BoardSetup, Refusal>
+fn read_board_given(heap: Global, given: Four) -> Result<Board, Refusal>
     ensures { Reads (λ b. b) result (board_given (given.entry.0.now, given.entry.1.now, given.entry.2.now, given.entry.3.now)) }
 {
     let holders = byte_array(heap, given.0)?;
     let previous = byte_array(heap, given.1)?;
     let [reply] = byte_array::<1>(heap, given.2)?;
     let awaited = slot(given.3)?;
-    Ok(BoardSetup {
-        holders,
-        previous,
+    Ok(Board {
+        slots: slot_table(holders, previous),
         reply,
         awaited,
     })
 }
 
-fn read_board(heap: Global, words: &mut Words) -> Result<BoardSetup, Refusal>
+fn read_board(heap: Global, words: &mut Words) -> Result<Board, Refusal>
     ensures { Reads (λ b. b) result (read_then (none_or_four words.old) board_from) }
 {
     match words.none_or_four()? {
         Some(given) => read_board_given(heap, given),
-        None => Ok(BoardSetup::fresh()),
+        None => Ok(Board::default()),
     }
 }
 

@@ -2,38 +2,17 @@
 ghost use Rattle.std.specs.Prelude.{◌≡◌};
 ghost use Rattle.faults.specs.declared.fault.Expected.TheVariants.{Name, LineKind as NoLineKind};
 ghost use Rattle.faults.specs.Readings.{wanted};
-ghost use Rattle.scenario.specs.Statements.{fresh_board, keyword, line_kind};
+ghost use Rattle.scenario.specs.Statements.{keyword, line_kind};
 
+use board::pump::Board;
 use faults::fault::Expected;
-
-#[derive(Clone, Copy)]
-pub struct BoardSetup {
-    pub holders: [u8; 8],
-    pub previous: [u8; 8],
-    pub reply: u8,
-    pub awaited: Option<u8>,
-}
-
-impl BoardSetup {
-    // No holders, and no slot awaited.
-    pub fn fresh() -> BoardSetup
-        ensures { result ≡ fresh_board }
-    {
-        BoardSetup {
-            holders: [0; 8],
-            previous: [0; 8],
-            reply: 0x00,
-            awaited: None,
-        }
-    }
-}
 
 // A relay holds 1 to 16 bytes, the oldest first.
 #[derive(Drop)]
 pub enum LineSetup {
     Relay(Vec<u8>),
     Script(Vec<u8>),
-    Board(BoardSetup),
+    Board(Board),
 }
 
 #[derive(Drop)]

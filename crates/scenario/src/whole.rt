@@ -8,7 +8,8 @@ ghost use Rattle.scenario.specs.Wholes.{ReadAs, scenario_model};
 ghost use Rattle.scenario.specs.Wrongs.{NamesFirst};
 
 use crate::read::read_statement;
-use crate::statement::{BoardSetup, Call, LineSetup, Statement};
+use crate::statement::{Call, LineSetup, Statement};
+use board::pump::Board;
 use faults::fault::{Expected, Fault, Refusal};
 use std::alloc::Global;
 use std::marker::Model;
@@ -107,7 +108,7 @@ impl Reader {
         ensures { Ok (scenario_model result) ≡ finished (Ok self) }
     {
         Scenario {
-            line: self.line.unwrap_or(LineSetup::Board(BoardSetup::fresh())),
+            line: self.line.unwrap_or(LineSetup::Board(Board::default())),
             steps: self.steps,
         }
     }

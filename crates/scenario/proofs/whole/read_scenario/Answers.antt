@@ -1,5 +1,5 @@
 use borrow.Author.Tests.{tests}
-use Rattle.std.proofs.Common.{ℕ, ◌+◌, ◌≤◌, List, drop, Err, sym, ap, ◌∙◌, arith, rules, length, eqb}
+use Rattle.std.proofs.Common.{◌+◌, ◌≤◌, Err, sym, ap, ◌∙◌, arith, rules, length}
 use Rattle.std.proofs.lemmas.List.{length_push, at_drop_all}
 use Rattle.std.proofs.lemmas.List.FromFn.{length-enumerate_from}
 use Rattle.std.proofs.lemmas.Iterator.Consumers.{YieldsList-turn, YieldsList-end}
