@@ -19,102 +19,120 @@ const SHORTEST: u32 = 1;
 
 const LONGEST: u32 = 16;
 
-fn one_bytes(heap: Global, words: &mut Words) -> Result<Vec<u8>, Refusal>
-    ensures { Reads vec_items result (read_then (one words.old) bytes_of) }
-{
-    let word = words.one()?;
-    bytes(heap, word)
+// Reads one line: the words that are left of it, and the heap for what they say.
+#[derive(Drop)]
+struct LineReader<'w, 'a> {
+    heap: Global,
+    words: &'w mut Words<'a>,
 }
 
-// The bytes that a relay of `len` holds: those given, or 0x00 each.
-fn read_held(heap: Global, len: usize, given: Option<&[u8]>) -> Result<Vec<u8>, Refusal>
-    ensures { Reads vec_items result (held len (option_map (λ x. x.now) given.entry)) }
-{
-    match given {
-        Some(word) => exact_bytes(heap, word, len),
-        None => Ok(vec![in heap; 0; len]?),
+impl LineReader<'_, '_> {
+    fn one_bytes(&mut self) -> Result<Vec<u8>, Refusal>
+        ensures { Reads vec_items result (read_then (one self.old.words.now) bytes_of) }
+    {
+        bytes(self.heap, self.words.one()?)
     }
-}
 
-fn read_relay(heap: Global, words: &mut Words) -> Result<Vec<u8>, Refusal>
-    ensures { Reads vec_items result (relay_line words.old) }
-{
-    let (len, given) = words.one_or_two()?;
-    let len = number(len)?.clamp(SHORTEST, LONGEST);
-    read_held(heap, len as usize, given)
-}
-
-fn read_board_given(heap: Global, given: Four) -> Result<Board, Refusal>
-    ensures { Reads (λ b. b) result (board_given (given.entry.0.now, given.entry.1.now, given.entry.2.now, given.entry.3.now)) }
-{
-    let holders = byte_array(heap, given.0)?;
-    let previous = byte_array(heap, given.1)?;
-    let [reply] = byte_array::<1>(heap, given.2)?;
-    let awaited = slot(given.3)?;
-    Ok(Board {
-        slots: slot_table(holders, previous),
-        reply,
-        awaited,
-    })
-}
-
-fn read_board(heap: Global, words: &mut Words) -> Result<Board, Refusal>
-    ensures { Reads (λ b. b) result (read_then (none_or_four words.old) board_from) }
-{
-    match words.none_or_four()? {
-        Some(given) => read_board_given(heap, given),
-        None => Ok(Board::default()),
-    }
-}
-
-fn read_line_of(heap: Global, kind: LineKind, words: &mut Words) -> Result<LineSetup, Refusal>
-    ensures { Reads line_model result (line_of kind words.old) }
-{
-    match kind {
-        LineKind::Relay => Ok(LineSetup::Relay(read_relay(heap, words)?)),
-        LineKind::Script => Ok(LineSetup::Script(one_bytes(heap, words)?)),
-        LineKind::Board => Ok(LineSetup::Board(read_board(heap, words)?)),
-    }
-}
-
-fn read_line_setup(heap: Global, words: &mut Words) -> Result<LineSetup, Refusal>
-    ensures { Reads line_model result (line_statement words.old) }
-{
-    let word = words.next_word().ok_or(Expected::LineKind)?;
-    read_line_of(heap, LineKind::try_from(word)?, words)
-}
-
-fn read_transfer(heap: Global, words: &mut Words) -> Result<Call, Refusal>
-    ensures { Reads call_model result (call_of BusTransfer words.old) }
-{
-    let (places, sent) = words.two()?;
-    let places = count(places)?;
-    Ok(Call::BusTransfer(places, bytes(heap, sent)?))
-}
-
-fn read_call(heap: Global, name: CallName, words: &mut Words) -> Result<Call, Refusal>
-    ensures { Reads call_model result (call_of name words.old) }
-{
-    match name {
-        CallName::BusWrite => Ok(Call::BusWrite(one_bytes(heap, words)?)),
-        CallName::BusRead => Ok(Call::BusRead(count(words.one()?)?)),
-        CallName::BusTransfer => read_transfer(heap, words),
-        CallName::TransferInPlace => Ok(Call::TransferInPlace(one_bytes(heap, words)?)),
-        CallName::Flush => {
-            words.end()?;
-            Ok(Call::Flush)
+    // The bytes that a relay of `len` holds: those given, or 0x00 each.
+    fn held(&self, len: usize, given: Option<&[u8]>) -> Result<Vec<u8>, Refusal>
+        ensures { Reads vec_items result (held len (option_map (λ x. x.now) given.entry)) }
+    {
+        match given {
+            Some(word) => exact_bytes(self.heap, word, len),
+            None => Ok(vec![in self.heap; 0; len]?),
         }
-        CallName::Clock => Ok(Call::Clock(number(words.one()?)?)),
     }
-}
 
-fn read_named(heap: Global, name: Keyword, words: &mut Words) -> Result<Statement, Refusal>
-    ensures { Reads statement_model result (said_by name words.old) }
-{
-    match name {
-        Keyword::Line => Ok(Statement::Line(read_line_setup(heap, words)?)),
-        Keyword::Source => Ok(Statement::Source(number(words.one()?)?)),
-        Keyword::Call(name) => Ok(Statement::Call(read_call(heap, name, words)?)),
+    fn relay(&mut self) -> Result<Vec<u8>, Refusal>
+        ensures { Reads vec_items result (relay_line self.old.words.now) }
+    {
+        let (len, given) = self.words.one_or_two()?;
+        let len = number(len)?.clamp(SHORTEST, LONGEST);
+        self.held(len as usize, given)
+    }
+
+    fn board_given(&self, given: Four) -> Result<Board, Refusal>
+        ensures { Reads (λ b. b) result (board_given (given.entry.0.now, given.entry.1.now, given.entry.2.now, given.entry.3.now)) }
+    {
+        let holders = byte_array(self.heap, given.0)?;
+        let previous = byte_array(self.heap, given.1)?;
+        let [reply] = byte_array::<1>(self.heap, given.2)?;
+        let awaited = slot(given.3)?;
+        Ok(Board {
+            slots: slot_table(holders, previous),
+            reply,
+            awaited,
+        })
+    }
+
+    fn board(&mut self) -> Result<Board, Refusal>
+        ensures { Reads (λ b. b) result (read_then (none_or_four self.old.words.now) board_from) }
+    {
+        match self.words.none_or_four()? {
+            Some(given) => self.board_given(given),
+            None => Ok(Board::default()),
+        }
+    }
+
+    fn line_of(&mut self, kind: LineKind) -> Result<LineSetup, Refusal>
+        ensures { Reads line_model result (line_of kind self.old.words.now) }
+    {
+        match kind {
+            LineKind::Relay => Ok(LineSetup::Relay(self.relay()?)),
+            LineKind::Script => Ok(LineSetup::Script(self.one_bytes()?)),
+            LineKind::Board => Ok(LineSetup::Board(self.board()?)),
+        }
+    }
+
+    fn line_setup(&mut self) -> Result<LineSetup, Refusal>
+        ensures { Reads line_model result (line_statement self.old.words.now) }
+    {
+        let word = self.words.next_word().ok_or(Expected::LineKind)?;
+        self.line_of(LineKind::try_from(word)?)
+    }
+
+    fn transfer(&mut self) -> Result<Call, Refusal>
+        ensures { Reads call_model result (call_of BusTransfer self.old.words.now) }
+    {
+        let (places, sent) = self.words.two()?;
+        let places = count(places)?;
+        Ok(Call::BusTransfer(places, bytes(self.heap, sent)?))
+    }
+
+    fn call(&mut self, name: CallName) -> Result<Call, Refusal>
+        ensures { Reads call_model result (call_of name self.old.words.now) }
+    {
+        match name {
+            CallName::BusWrite => Ok(Call::BusWrite(self.one_bytes()?)),
+            CallName::BusRead => Ok(Call::BusRead(count(self.words.one()?)?)),
+            CallName::BusTransfer => self.transfer(),
+            CallName::TransferInPlace => Ok(Call::TransferInPlace(self.one_bytes()?)),
+            CallName::Flush => {
+                self.words.end()?;
+                Ok(Call::Flush)
+            }
+            CallName::Clock => Ok(Call::Clock(number(self.words.one()?)?)),
+        }
+    }
+
+    fn said_by(&mut self, name: Keyword) -> Result<Statement, Refusal>
+        ensures { Reads statement_model result (said_by name self.old.words.now) }
+    {
+        match name {
+            Keyword::Line => Ok(Statement::Line(self.line_setup()?)),
+            Keyword::Source => Ok(Statement::Source(number(self.words.one()?)?)),
+            Keyword::Call(name) => Ok(Statement::Call(self.call(name)?)),
+        }
+    }
+
+    fn statement(&mut self) -> Result<Option<Statement>, Refusal>
+        ensures { Reads (option_map statement_model) result (statement self.old.words.now) }
+    {
+        let Some(word) = self.words.next_word() else {
+            return Ok(None);
+        };
+        let name = Keyword::try_from(word)?;
+        Ok(Some(self.said_by(name)?))
     }
 }
 
@@ -122,9 +140,5 @@ fn read_named(heap: Global, name: Keyword, words: &mut Words) -> Result<Statemen
 pub fn read_statement(heap: Global, words: &mut Words) -> Result<Option<Statement>, Refusal>
     ensures { Reads (option_map statement_model) result (statement words.old) }
 {
-    let Some(word) = words.next_word() else {
-        return Ok(None);
-    };
-    let name = Keyword::try_from(word)?;
-    Ok(Some(read_named(heap, name, words)?))
+    LineReader { heap, words }.statement()
 }
