@@ -12,6 +12,7 @@ use crate::statement::{Call, CallName, Keyword, LineKind, LineSetup, Statement};
 use board::pump::{Board, slot_table};
 use faults::fault::{Expected, Refusal};
 use std::alloc::Global;
+use std::marker::Model;
 use values::{byte_array, bytes, count, exact_bytes, number, slot};
 use words::words::{Four, Words};
 
@@ -26,9 +27,17 @@ struct LineReader<'w, 'a> {
     words: &'w mut Words<'a>,
 }
 
+impl<'w, 'a> Model for LineReader<'w, 'a> {
+    ghost use Rattle.std.specs.Prelude.{List, ℕ};
+
+    ghost Value = { List (List ℕ) };
+
+    ghost view = { λ r. r.words.now };
+}
+
 impl LineReader<'_, '_> {
     fn one_bytes(&mut self) -> Result<Vec<u8>, Refusal>
-        ensures { Reads vec_items result (read_then (one self.old.words.now) bytes_of) }
+        ensures { Reads vec_items result (read_then (one self.old) bytes_of) }
     {
         bytes(self.heap, self.words.one()?)
     }
@@ -44,7 +53,7 @@ impl LineReader<'_, '_> {
     }
 
     fn relay(&mut self) -> Result<Vec<u8>, Refusal>
-        ensures { Reads vec_items result (relay_line self.old.words.now) }
+        ensures { Reads vec_items result (relay_line self.old) }
     {
         let (len, given) = self.words.one_or_two()?;
         let len = number(len)?.clamp(SHORTEST, LONGEST);
@@ -66,7 +75,7 @@ impl LineReader<'_, '_> {
     }
 
     fn board(&mut self) -> Result<Board, Refusal>
-        ensures { Reads (λ b. b) result (read_then (none_or_four self.old.words.now) board_from) }
+        ensures { Reads (λ b. b) result (read_then (none_or_four self.old) board_from) }
     {
         match self.words.none_or_four()? {
             Some(given) => self.board_given(given),
@@ -75,7 +84,7 @@ impl LineReader<'_, '_> {
     }
 
     fn line_of(&mut self, kind: LineKind) -> Result<LineSetup, Refusal>
-        ensures { Reads line_model result (line_of kind self.old.words.now) }
+        ensures { Reads line_model result (line_of kind self.old) }
     {
         match kind {
             LineKind::Relay => Ok(LineSetup::Relay(self.relay()?)),
@@ -85,14 +94,14 @@ impl LineReader<'_, '_> {
     }
 
     fn line_setup(&mut self) -> Result<LineSetup, Refusal>
-        ensures { Reads line_model result (line_statement self.old.words.now) }
+        ensures { Reads line_model result (line_statement self.old) }
     {
         let word = self.words.next_word().ok_or(Expected::LineKind)?;
         self.line_of(LineKind::try_from(word)?)
     }
 
     fn transfer(&mut self) -> Result<Call, Refusal>
-        ensures { Reads call_model result (call_of BusTransfer self.old.words.now) }
+        ensures { Reads call_model result (call_of BusTransfer self.old) }
     {
         let (places, sent) = self.words.two()?;
         let places = count(places)?;
@@ -100,7 +109,7 @@ impl LineReader<'_, '_> {
     }
 
     fn call(&mut self, name: CallName) -> Result<Call, Refusal>
-        ensures { Reads call_model result (call_of name self.old.words.now) }
+        ensures { Reads call_model result (call_of name self.old) }
     {
         match name {
             CallName::BusWrite => Ok(Call::BusWrite(self.one_bytes()?)),
@@ -116,7 +125,7 @@ impl LineReader<'_, '_> {
     }
 
     fn said_by(&mut self, name: Keyword) -> Result<Statement, Refusal>
-        ensures { Reads statement_model result (said_by name self.old.words.now) }
+        ensures { Reads statement_model result (said_by name self.old) }
     {
         match name {
             Keyword::Line => Ok(Statement::Line(self.line_setup()?)),
@@ -126,7 +135,7 @@ impl LineReader<'_, '_> {
     }
 
     fn statement(&mut self) -> Result<Option<Statement>, Refusal>
-        ensures { Reads (option_map statement_model) result (statement self.old.words.now) }
+        ensures { Reads (option_map statement_model) result (statement self.old) }
     {
         let Some(word) = self.words.next_word() else {
             return Ok(None);
