@@ -1,9 +1,11 @@
 -- One line of a scenario more. Assumes nothing.
-use Rattle.std.proofs.Common.{◌≡◌, ℕ, ◌+◌, ◌<◌, List, ◌∷◌, Ok, Err, get_or, drop, length, sym, ap, ◌∙◌, arith}
+use Rattle.std.proofs.Common.{◌≡◌, ℕ, ◌+◌, ◌<◌, List, ◌∷◌, Ok, Err, Result, get_or, drop, length, sym, subst, ap, ◌∙◌, arith}
+use Rattle.std.specs.Result.{IsErrAnd, MatchResult}
 use Rattle.std.specs.List.{enumerate_from}
 use Rattle.std.proofs.lemmas.List.{at_drop_more}
 use Rattle.std.proofs.lemmas.List.FromFn.{length-enumerate_from, get_or-enumerate_from}
 use Rattle.faults.specs.declared.fault.Expected.{Expected}
+use Rattle.faults.specs.declared.fault.Fault.{Fault}
 use Rattle.faults.specs.declared.fault.Refusal.{Refusal}
 use Rattle.faults.specs.declared.fault.Refusal.TheVariants.{Unread, NoMemory}
 use Rattle.faults.specs.Faults.{fault_at}
@@ -38,7 +40,15 @@ module _ (ls : List (List ℕ)) (k i : ℕ) (l : List ℕ) where
     line_refused x e = opened (Err x) e ∙ ap (λ (n : ℕ). Err (n + 1, x)) (sym next.number)
 
 -- a line that is refused is the first that is wrong
-pub refused : (text : List ℕ) (k i : ℕ) (l : List ℕ) (s t : Sofar) (r : Refusal) → Next (lines text) k i l → Reads {X = Unit {0}} (λ _. t) (Err r) (with_text s l)
-    → lines_from (k + 1) s (drop k (lines text)) ≡ lines_from 1 start (lines text) → ReadAs (Err (fault_at r (i + 1))) text
-refused text k i l s t (Unread x) next e same = ap finished (sym same ∙ line_refused (lines text) k i l s next x e)
-refused text k i l s t NoMemory next e same = tt
+module _ (text : List ℕ) (k i : ℕ) (l : List ℕ) (s t : Sofar) (next : Next (lines text) k i l) (same : lines_from (k + 1) s (drop k (lines text)) ≡ lines_from 1 start (lines text)) where
+  told : (e : Refusal) → Reads {X = Unit {0}} (λ _. t) (Err e) (with_text s l) → ReadAs (Err (fault_at e (i + 1))) text
+  told (Unread x) h = ap finished (sym same ∙ line_refused (lines text) k i l s next x h)
+  told NoMemory h = tt
+
+  pub refused : (P : Refusal → Fault → Type 0) (r : Result (Unit {0}) Refusal) (m : Result (Unit {0}) Fault) (f : Fault) → Reads (λ _. t) r (with_text s l)
+      → MatchResult r (λ x. m ≡ Ok x) (λ e. IsErrAnd m (P e)) → m ≡ Err f → ((e : Refusal) → P e f → f ≡ fault_at e (i + 1)) → ReadAs (Err f) text
+  refused P (Ok x) m f read mapped is by = let z : ◌≡◌ {A = ℕ} 0 1 = cc in absurd (omega arith)
+  refused P (Err e) (Ok x) f read mapped is by = absurd mapped
+  refused P (Err e) (Err g) f read mapped is by =
+      let g_is : g ≡ f = cc in
+      subst (λ (h : Fault). ReadAs (Err h) text) (sym (by e (subst (λ (h : Fault). P e h) g_is mapped))) (told e read)

@@ -121,9 +121,7 @@ pub fn read_scenario(heap: Global, text: &[u8]) -> Result<Scenario, Fault>
 {
     let mut reader = Reader::new(heap);
     for (i, line) in text.split(|b| *b == b'\n').enumerate() {
-        if let Err(refusal) = reader.read_line(line) {
-            return Err(refusal.at(i + 1));
-        }
+        reader.read_line(line).map_err(|refusal| refusal.at(i + 1))?;
     }
     Ok(reader.finish())
 }

@@ -1,10 +1,10 @@
 use borrow.Author.Tests.{tests}
-use Rattle.std.proofs.Common.{◌+◌, ◌≤◌, Err, sym, ap, ◌∙◌, arith, rules, length}
+use Rattle.std.proofs.Common.{◌≡◌, ◌+◌, ◌≤◌, Err, sym, ap, ◌∙◌, arith, rules, length}
 use Rattle.std.proofs.lemmas.List.{length_push, at_drop_all}
 use Rattle.std.proofs.lemmas.List.FromFn.{length-enumerate_from}
 use Rattle.std.proofs.lemmas.Iterator.Consumers.{YieldsList-turn, YieldsList-end}
 use Rattle.scenario.specs.Scenarios.{finished, lines_from}
-use Rattle.scenario.specs.Wholes.{ReadAs, scenario_model}
+use Rattle.scenario.specs.Wholes.{scenario_model}
 use Rattle.words.specs.Words.{lines}
 use Rattle.scenario.proofs.Ends.{YieldsList-from_lines}
 use Rattle.scenario.proofs.Refusals.{names_first}
@@ -18,18 +18,22 @@ loop-i-preserved c =
     let turn = YieldsList-turn road c.loop-i.yielded _ c.loop-i.yielded_by _ _ _ c.in-Some.is c.next.ensures.steps in
     let k = length c.loop-i.yielded in
     let next = next_line (lines c.args.text.now) k c.in-Some.i c.in-Some.line.now turn in
-    let more = line_read (lines c.args.text.now) k c.in-Some.i c.in-Some.line.now c.loop-i.reader next c.read_line.new.self c.in_default.ensures in
+    let more = line_read (lines c.args.text.now) k c.in-Some.i c.in-Some.line.now c.loop-i.reader next c.read_line.new.self (search rules) in
     record { read = rw (length_push c.loop-i.yielded (c.in-Some.i, c.in-Some.line)) (sym more ∙ c.loop-i.invariant.read); next = search rules; ends = search rules }
 
-pub returns-in-Err : goal.returns-in-Err
-returns-in-Err c =
+pub returns-in_err-map_err-clause-reads : goal.returns-in_err-map_err-clause-reads
+returns-in_err-map_err-clause-reads c =
     let text = c.args.text.now in
     let road = YieldsList-from_lines _ text (cc) (cc) (cc) (cc) (λ x r q k. search (rules, tests)) in
     let turn = YieldsList-turn road c.loop-i.yielded _ c.loop-i.yielded_by _ _ _ c.in-Some.is c.next.ensures.steps in
     let k = length c.loop-i.yielded in
     let next = next_line (lines text) k c.in-Some.i c.in-Some.line.now turn in
-    let told : ReadAs (Err c.at.result) text = rw c.at.ensures (refused text k c.in-Some.i c.in-Some.line.now c.loop-i.reader c.read_line.new.self c.in-Err.refusal next c.in-Err.ensures c.loop-i.invariant.read) in
-    record { reads = told; first = names_first (Err c.at.result) text told; tells = tt }
+    let told = refused text k c.in-Some.i c.in-Some.line.now c.loop-i.reader c.read_line.new.self next c.loop-i.invariant.read _ c.read_line.result c.map_err.result c.in_err-map_err.field-0.0 c.read_line.ensures c.map_err.ensures.cases c.in_err-map_err.was (λ e p. search rules) in
+    let given : c.from_residual.result ≡ Err c.in_err-map_err.field-0.0 = search rules in
+    rw given told
+
+pub returns-in_err-map_err-clause-first : goal.returns-in_err-map_err-clause-first
+returns-in_err-map_err-clause-first c = names_first _ c.args.text.now (returns-in_err-map_err-clause-reads c)
 
 pub returns : goal.returns
 returns c =
