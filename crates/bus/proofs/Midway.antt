@@ -1,5 +1,5 @@
 -- A buffer that goes out piece by piece: the one invariant of all such loops.
-use Rattle.std.proofs.Common.{◌≡◌, ℕ, ◌+◌, ◌-◌, ◌<◌, ◌≤◌, min, ◌⊎◌, List, [], ◌++◌, length, take, drop, inl, inr, sym, refl, ap, ◌∙◌, ⊎_elim, arith}
+use Rattle.std.proofs.Common.{◌≡◌, ℕ, ◌+◌, ◌-◌, ◌<◌, ◌≤◌, min, ◌⊎◌, List, [], ◌++◌, length, take, drop, inl, inr, sym, ap, ◌∙◌, ⊎_elim, arith}
 use Rattle.std.proofs.lemmas.Bool.{cases_lt}
 use borrow.Rule.Slice.PartMut.{put_mid}
 use Rattle.std.proofs.lemmas.List.{append_assoc, append-nil, drop_all, drop-drop, length-append, length-drop, length-take, nil_from_length, take_all, take-append-drop}
@@ -36,9 +36,6 @@ module _ (words out : List ℕ) (d k : ℕ) (le : d + k ≤ length words) (long 
       let parts : put_mid d k words out ≡ take d words ++ out ++ drop (d + k) words = sym (take-append-drop (d + k) (put_mid d k words out)) ∙ (rw (put_front, put_back)) in
       ap length parts ∙ (simp (length-append, length-take, length-drop) (omega arith))
 
-pub begun : (a : Answers) (words : List ℕ) → Midway a words (take 0 words) a (drop 0 words)
-begun a words = record { gave = refl; left = refl }
-
 pub pieces_all : {start a : Answers} {all : List ℕ} → Causal a → (words : List ℕ) (d : ℕ) → Midway start all (take d words) a (drop d words) → length words ≤ d → Ran start all words a
 pieces_all {a = a} causal words d mid le =
     let none : a (drop d words) ≡ [] = ap a (drop_all d words le) ∙ nil_from_length (a []) (causal.count []) in
@@ -64,11 +61,6 @@ module _ {start a : Answers} {all : List ℕ} (causal : Causal a) (words : List 
         gave = append_assoc (take d words) out (b rest) ∙ ap (λ (ys : List ℕ). take d words ++ ys) (sym (goes ran causal rest) ∙ ap a (cut words d k)) ∙ mid.gave;
         left = leads ran rest ∙ ap (after a) (cut words d k) ∙ mid.left;
       })
-
-  pub piece_last : Causal b → length words ≤ d + most → Ran start all (put_mid d k words out) b
-  piece_last causal' le =
-      let same = put_length words out d k (omega arith) long in
-      pieces_all causal' (put_mid d k words out) (d + most) piece_more (omega arith)
 
 -- the same where the answers are dropped: what was sent, and then the rest, are all words
 pub record Sending (start : Answers) (words : List ℕ) (a : Answers) (rest : List ℕ) : Type 0 where

@@ -1,4 +1,4 @@
--- What a list of calls does to the bus beneath, and what two such lists have in common.
+-- What a list of calls does to the bus beneath.
 use Rattle.std.proofs.Common.{◌≡◌, List, [], sym, ap, ◌∙◌}
 use Rattle.bus.specs.Answers.{Answers, after}
 use Rattle.bus.specs.Calls.{Call, answered_by, sent_by}
@@ -17,19 +17,3 @@ beneath_performed ks {calls} {results} {m} {n} u v before afterwards idle-before
       rests = λ cs e. sym idle-afterwards ∙ p.rests cs e;
       still = λ e. sym idle-afterwards ∙ p.still e ∙ idle-before;
     }
-
--- equal calls through the same layers, over buses that answer alike
-module _ (ks : List Kind) {calls again results results' : List Call} {u u' v v' : Bus} (p : Performed ks calls results u v) (q : Performed ks again results' u' v') (alike : u.answers ≡ u'.answers) (same : calls ≡ again) where
-  pub same_results : results ≡ results'
-  same_results =
-      p.received
-      ∙ ap (λ (a : Answers). answered_by calls (lifted ks a (sent_by calls))) alike
-      ∙ ap (λ (cs : List Call). answered_by cs (lifted ks u'.answers (sent_by cs))) same
-      ∙ sym q.received
-
-  pub same_left : v.answers ≡ v'.answers
-  same_left =
-      p.left
-      ∙ ap (λ (a : Answers). after a (lowered ks (sent_by calls))) alike
-      ∙ ap (λ (cs : List Call). after u'.answers (lowered ks (sent_by cs))) same
-      ∙ sym q.left

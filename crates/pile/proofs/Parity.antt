@@ -1,5 +1,5 @@
 -- Layers undo themselves and pass one another, so only their parity counts.
-use Rattle.std.proofs.Common.{◌≡◌, ℕ, zero, suc, ◌%◌, ◌≤◌, List, [], ◌∷◌, map, sym, refl, ap, ◌∙◌, ⊎_elim, map-id, arith}
+use Rattle.std.proofs.Common.{◌≡◌, ℕ, zero, suc, ◌%◌, List, [], ◌∷◌, map, sym, refl, ap, ◌∙◌, ⊎_elim, map-id, arith}
 use mathlib.Core.Path.{fun_ext}
 use mathlib.Core.List.{map-map}
 use Rattle.std.specs.List.{range_with_len}
@@ -13,10 +13,6 @@ use Rattle.layer.specs.Kinds.{Kind, change, changed, invert, inverter, mirror}
 use Rattle.layer.specs.Undone.{change_twice, no_inverse}
 use Rattle.layer.proofs.Pieces.{changed-after}
 use Rattle.pile.specs.Piles.{Alike, Bus, Performed, count, lifted, lowered}
-
-no_change : (k : Kind) (x : ℕ) → 256 ≤ x → change k x ≡ x
-no_change mirror x h = no_byte x h
-no_change inverter x h = no_inverse x h
 
 -- antt computes both at each of the 256 bytes
 swap_bytes : map (λ x. invert (bits.mirror x)) (range_with_len 0 256) ≡ map (λ x. bits.mirror (invert x)) (range_with_len 0 256)

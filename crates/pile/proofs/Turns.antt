@@ -16,10 +16,6 @@ pub record Going (m : Bus) (all : List Call) (i : ℕ) (now : List Call) (n : Bu
   pub rests : (j : ℕ) → i ≡ j + 1 → get_or all j (write []) ≡ flush → n.idle ≡ true
   pub still : i ≡ 0 → n.idle ≡ m.idle
 
-pub begun : (m : Bus) (all : List Call) → Going m all 0 all m
-begun m all =
-    record { long = refl; received = refl; rest = refl; left = refl; rests = λ j e _. absurd (omega arith); still = λ _. refl }
-
 -- the call at a place, and those that follow
 abbrev at_place : List BusCall → ℕ → BusCall → Call
 at_place xs i d = call_of (get_or xs i d)

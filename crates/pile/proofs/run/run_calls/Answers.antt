@@ -3,11 +3,8 @@ use Rattle.bus.specs.Calls.{calls_of}
 use Rattle.pile.specs.Piles.{Performed}
 use Rattle.pile.proofs.Beneath.{beneath_performed}
 use Rattle.pile.proofs.Parity.{same_performed}
-use Rattle.pile.proofs.Turns.{begun, more, performed}
+use Rattle.pile.proofs.Turns.{more, performed}
 use Rattle.pile.proofs.run.run_calls.Goals as goal
-
-pub loop-call-init : goal.loop-call-init
-loop-call-init g c = begun _ _
 
 pub loop-call-preserved : goal.loop-call-preserved
 loop-call-preserved g c =

@@ -1,10 +1,7 @@
 use Rattle.std.proofs.Common.{arith}
-use Rattle.bus.proofs.Midway.{begun, piece_last, piece_more, pieces_all}
+use Rattle.bus.proofs.Midway.{piece_more, pieces_all}
 use Rattle.layer.specs.Changed.{changed_causal}
 use Rattle.layer.proofs.layer.LayerSpiBus.transfer_in_place.Goals as goal
-
-pub loop-done-init : goal.loop-done-init
-loop-done-init g c = begun _ _
 
 pub loop-done-preserved : goal.loop-done-preserved
 loop-done-preserved g c =
@@ -15,11 +12,3 @@ pub returns : goal.returns
 returns g c =
     let causal = changed_causal g.C.Change.kind _ (g.B.SpiBus.causal c.loop-done.self.below) in
     record { ran = pieces_all causal c.loop-done.words c.loop-done.done c.loop-done.invariant (omega arith) }
-
--- where the next place would be past any
-pub returns-2 : goal.returns-2
-returns-2 g c =
-    let causal = λ (s : _). changed_causal g.C.Change.kind _ (g.B.SpiBus.causal s) in
-    record {
-      ran = piece_last (causal c.loop-done.self.below) c.loop-done.words c.loop-done.done c.loop-done.invariant 64 _ (omega arith) (omega arith) c.exchange.ensures.ran (causal c.exchange.new.self.below) (omega arith);
-    }
