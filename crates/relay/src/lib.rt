@@ -16,12 +16,15 @@ use wire::line::Line;
 const MOST: usize = 16;
 
 // The bytes held stand at the end, from `first` on, the oldest first.
+// An array and a place in it, and no `Vec`: a chain is made with no heap, and its making cannot fail.
 #[derive(Drop)]
 pub struct Cells {
-    bytes: [u8; 16],
+    bytes: [u8; MOST],
     first: usize,
 }
 
+// Clauses say `held` of the cells: a model whose value is the list held would lose that its numbers are bytes,
+// which `causal` needs.
 #[derive(Drop)]
 pub struct RelayChain {
     cells: Cells,
@@ -36,7 +39,7 @@ impl RelayChain {
     {
         RelayChain {
             cells: Cells {
-                bytes: [0; 16],
+                bytes: [0; MOST],
                 first: MOST - len.clamp(1, MOST),
             },
         }
@@ -52,7 +55,7 @@ impl RelayChain {
             return None;
         }
         let first = MOST - len;
-        let mut cells = [0; 16];
+        let mut cells = [0; MOST];
         cells[first..].copy_from_slice(bytes);
         Some(RelayChain {
             cells: Cells {
@@ -84,7 +87,7 @@ impl RelayChain {
     {
         let oldest = self.cells.bytes[self.cells.first];
         self.cells.bytes.rotate_left(1);
-        self.cells.bytes[15] = b;
+        self.cells.bytes[MOST - 1] = b;
         oldest
     }
 }
