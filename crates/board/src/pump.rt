@@ -6,6 +6,7 @@ ghost use Rattle.wire.specs.Machine.{run};
 ghost use Rattle.board.specs.Board.{Bytewide, acted, free, mark_and_look, one_of_eight, pump, rows};
 ghost use Rattle.board.specs.BoardBytes.{pump_bytes};
 
+use wire::calls::exchange_in_place;
 use wire::event::Head;
 use wire::line::Line;
 
@@ -120,14 +121,11 @@ impl PumpBoard {
         if slot >= 8 {
             return None;
         }
-        let _ = self.both(0x20 + slot);
-        let _ = self.both(holder);
-        let _ = self.both(0x10 + slot);
-        let now = self.both(0x30 + slot);
-        let before = self.both(0x00);
+        let mut bytes = [0x20 + slot, holder, 0x10 + slot, 0x30 + slot, 0x00];
+        exchange_in_place(self, &mut bytes);
         Some(Slot {
-            holder: now,
-            previous: before,
+            holder: bytes[3],
+            previous: bytes[4],
         })
     }
 
