@@ -19,10 +19,7 @@ pub fn hex_digit(b: u8) -> Option<u8>
 fn add_digit(base: u32, value: u32, b: u8) -> Option<u32>
     ensures { result ≡ below (2 ^ 32) (added base value b) }
 {
-    let digit = u32::from(hex_digit(b)?);
-    if digit >= base {
-        return None;
-    }
+    let digit = hex_digit(b).map(u32::from).filter(|d| *d < base)?;
     value.checked_mul(base)?.checked_add(digit)
 }
 
