@@ -10,16 +10,10 @@ use Rattle.scenario.specs.Wholes.{ReadAs}
 use Rattle.words.specs.Words.{lines}
 use Rattle.scenario.specs.Wrongs.{NamesFirst, Refuses}
 
-unlike : {A B X : Type 0} (a : A) (b : B) → Ok a ≡ Err b → X
-unlike a b e = let z : ◌≡◌ {A = ℕ} 0 1 = cc in absurd (omega arith)
-
-same_err : {A B : Type 0} (a b : B) → ◌≡◌ {A = Result A B} (Err a) (Err b) → a ≡ b
-same_err a b e = cc
-
 module _ (n : ℕ) (s : Sofar) (l : List ℕ) (ls : List (List ℕ)) (k : ℕ) (e : Expected) where
   stops : (v : Reading Sofar) → with_text s l ≡ v → ((u : Sofar) → lines_from (n + 1) u ls ≡ Err (k, e) → Refuses (n + 1) u ls k e) → go_on n v (λ u. lines_from (n + 1) u ls) ≡ Err (k, e) → Refuses n s (l ∷ ls) k e
   stops (Err x) p ih q =
-      let same = same_err (n, x) (k, e) q in
+      let same : ◌≡◌ {A = ℕ × Expected} (n, x) (k, e) = cc in
       let here : k ≡ n = sym (ap (λ (y : ℕ × Expected). y.0) same) in
       record {
         front = [];
@@ -45,12 +39,12 @@ module _ (n : ℕ) (s : Sofar) (l : List ℕ) (ls : List (List ℕ)) (k : ℕ) (
       }
 
 refuses : (n : ℕ) (s : Sofar) (ls : List (List ℕ)) (k : ℕ) (e : Expected) → lines_from n s ls ≡ Err (k, e) → Refuses n s ls k e
-refuses n s [] k e q = unlike s (k, e) q
+refuses n s [] k e q = absurd (cc)
 refuses n s (l ∷ ls) k e q = stops n s l ls k e (with_text s l) refl (λ u. refuses (n + 1) u ls k e) q
 
 unfinished : (r : Result Sofar (ℕ × Expected)) (f : ℕ × Expected) → finished r ≡ Err f → r ≡ Err f
-unfinished (Ok s) f q = unlike _ f q
-unfinished (Err g) f q = ap Err (same_err g f q)
+unfinished (Ok s) f q = absurd (cc)
+unfinished (Err g) f q = cc
 
 pub names_first : (r : Result Scenario Fault) (text : List ℕ) → ReadAs r text → NamesFirst r text
 names_first (Ok s) text q = tt
