@@ -4,7 +4,7 @@ use Rattle.wire.specs.Answers.{Answers}
 use Rattle.wire.specs.Machine.{run}
 use Rattle.relay.specs.Relay.{chain}
 use Rattle.lines.specs.Script.{script}
-use Rattle.board.specs.Board.{one_of_eight, pump, rows}
+use Rattle.board.specs.Board.{one_of_eight, pump}
 use Rattle.scenario.specs.Statements.{Line}
 use Rattle.scenario.specs.Statements as model
 
@@ -18,4 +18,4 @@ possible (model.board b) = one_of_eight b.awaited
 abbrev pub at_first : Line → Answers
 at_first (model.relay bs) = run chain bs
 at_first (model.script bs) = run script bs
-at_first (model.board b) = run pump (record { slots = rows b.holders b.previous; reply = b.reply; awaited = b.awaited })
+at_first (model.board b) = run pump b

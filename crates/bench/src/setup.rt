@@ -6,20 +6,18 @@ ghost use Rattle.bench.specs.Lines.{at_first, possible};
 
 use board::pump::PumpBoard;
 use lines::any::AnyLine;
-use lines::owned::OwnedScript;
+use lines::script::Script;
 use relay::RelayChain;
 use scenario::statement::LineSetup;
 
-// None where no line can be set up so.
+// None where no line can be set up so. Both types belong to other crates, so no `TryFrom` can stand here.
 pub fn hang(setup: LineSetup) -> Option<AnyLine>
     ensures test { is_some result ≡ possible (line_model setup) }
     ensures line { IfSome result (λ l. any_answers l ≡ at_first (line_model setup)) }
 {
     match setup {
         LineSetup::Relay(held) => Some(AnyLine::Relay(RelayChain::holding(held.as_slice())?)),
-        LineSetup::Script(bytes) => Some(AnyLine::Script(OwnedScript::new(bytes))),
-        LineSetup::Board(b) => Some(AnyLine::Board(PumpBoard::starting(
-            b.holders, b.previous, b.reply, b.awaited,
-        )?)),
+        LineSetup::Script(bytes) => Some(AnyLine::Script(Script::new(bytes))),
+        LineSetup::Board(b) => Some(AnyLine::Board(PumpBoard::starting(b)?)),
     }
 }
