@@ -31,8 +31,8 @@ pub(crate) fn hand_back<C: Change>(by: &C, from: &[u8], piece: &mut [u8])
     requires { length piece.old ≤ length from.now }
     ensures bytes { piece.new ≡ map (change C.kind) (take (length piece.old) from.now) }
 {
-    // By index, since a proof does not see what is written through `iter_mut().zip(from)`.
-    for (i, place) in piece.iter_mut().enumerate() {
-        *place = by.changed(from[i]);
+    piece.copy_from_slice(&from[..piece.len()]);
+    for place in piece.iter_mut() {
+        *place = by.changed(*place);
     }
 }
