@@ -20,6 +20,7 @@ use std::io;
 const COUNT: usize = 2;
 
 // The rules give the worked value.
+#[tactic(auto, unfolding(layer::specs::Kinds::invert))]
 fn worked_value() -> usize
     ensures worked { Worked }
     ensures count { result ≡ length held }
