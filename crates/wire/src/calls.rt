@@ -1,5 +1,4 @@
 // Calls on any line.
-// Each loop gives an event of its own: one loop over a closure would need a contract longer than these loops.
 ghost use Rattle.std.specs.Prelude.{◌≡◌, ℕ, ◌<◌, [], ◌∷◌, map, length, take, replicate, slice_index};
 ghost use Rattle.std.specs.Option.{option_to_list};
 ghost use Rattle.wire.specs.declared.event.Event.TheVariants.{Both, Out, In};
@@ -27,6 +26,7 @@ pub fn exchange_in_place<L: Line>(line: &mut L, buf: &mut [u8])
 }
 
 // Sends 0x00 for each place, and fills it with the answer.
+// This and `transfer` say which events pass; a bus has calls of these names that know bytes alone.
 pub fn read<L: Line>(line: &mut L, buf: &mut [u8])
     ensures ran { Ran (L.answers line.old) (map Both (replicate (length buf.old) 0)) buf.new (L.answers line.new) }
 {
@@ -54,6 +54,7 @@ pub fn load(buf: &mut [u8], bytes: &[u8])
 }
 
 // Sends each byte, with nothing to come back.
+// This and `receive` have loops of their own, for their own events: over a closure the contract would outgrow both.
 pub fn send_only<L: Line>(line: &mut L, bytes: &[u8])
     ensures ran { Ran (L.answers line.old) (map Out bytes.now) [] (L.answers line.new) }
 {

@@ -1,5 +1,5 @@
 -- The lines of a text, and the words of a line. Assumes nothing.
-use Rattle.std.specs.Prelude.{◌≡◌, ℕ, suc, Bool, cond, ◌||◌, List, [], ◌∷◌, ◌++◌, length, Some, None, Option, ◌==◌, nat_eq}
+use Rattle.std.specs.Prelude.{◌≡◌, ℕ, Bool, cond, ◌||◌, List, [], ◌∷◌, ◌++◌, ◌==◌, nat_eq}
 
 -- what a test returns at each byte is what p gives
 abbrev pub Computes : (ℕ → Bool → Type 0) → (ℕ → Bool) → Type 0
@@ -19,16 +19,6 @@ onto b (l ∷ ls) = (b ∷ l) ∷ ls
 abbrev pub lines : List ℕ → List (List ℕ)
 lines [] = [] ∷ []
 lines (b ∷ bs) = cond (b == 0x0A) ([] ∷ lines bs) (onto b (lines bs))
-
--- the lines of what is left of a text, if anything is
-abbrev pub lines_of : Option (List ℕ) → List (List ℕ)
-lines_of None = []
-lines_of (Some bs) = lines bs
-
--- at most so many lines are left
-abbrev pub left_of : Option (List ℕ) → ℕ
-left_of None = 0
-left_of (Some bs) = suc (length bs)
 
 -- without a CR at the very end
 abbrev pub uncarried : List ℕ → List ℕ
