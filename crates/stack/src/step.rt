@@ -33,7 +33,7 @@ impl From<AllocError> for Stop {
     }
 }
 
-// The bus call that a statement writes, with its buffers; none for a question.
+// The bus call that a statement writes, with its buffers; none for a question. No `TryFrom`, which is given no heap.
 pub fn bus_call(heap: Global, call: &Call) -> Result<Option<BusCall>, AllocError>
     ensures value { IfOk result (λ o. option_map call_of o ≡ bus_call (call_model call.now)) }
 {
