@@ -1,4 +1,5 @@
 // A pile's type grows with each layer, so a pile that is built at run time has a greatest depth: here a type too.
+// No `dyn` pile in its place: a `dyn` that is made over the line's type parameter gets no proof.
 ghost use Rattle.std.specs.Prelude.{◌≡◌, ℕ, suc, ◌<◌, ◌≤◌, length};
 ghost use Rattle.bus.specs.Calls.{calls_of};
 ghost use Rattle.pile.specs.Piles.{Performed};
