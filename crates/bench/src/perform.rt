@@ -1,4 +1,5 @@
-// The bus calls of a scenario, on any line.
+// The bus calls of a scenario, on any line. The heap is lent to what allocates and is no part of a line, so the two are
+// no struct.
 ghost use Rattle.scenario.specs.Models.{call_model};
 ghost use Rattle.scenario.specs.Statements.{bus_read, bus_transfer, transfer_in_place};
 ghost use Rattle.bench.specs.Calls.{Done};

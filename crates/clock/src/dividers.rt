@@ -4,7 +4,8 @@ ghost use Rattle.clock.specs.Dividers.{Best, dividers_of, divisions, error_of, p
 
 const MAX_PRE: u32 = 16;
 
-// A source rate, and the frequency that is wanted of it. The public calls take the two as plain numbers, as callers have them.
+// A source rate, and the frequency that is wanted of it. The public calls take the two as plain numbers: a struct of
+// two arguments would be made at each call to be taken apart there.
 #[derive(Clone, Copy)]
 struct Aim {
     source: u32,

@@ -15,7 +15,8 @@ pub fn is_direct(source: u32, frequency: u32) -> bool
     frequency > source / 4 * 3
 }
 
-// The clock word of the divider n and its prescaler. No type carries their ranges, since `dividers` answers the bare pair.
+// The clock word of the divider n and its prescaler. No type carries their ranges: the search answers the
+// pair (n, pre) itself, which configurations and reports hand on.
 fn divided_word(n: u32, pre: u32) -> u32
     requires { (2 ≤ n) × ((n ≤ 64) × ((1 ≤ pre) × (pre ≤ 16))) }
     ensures { result ≡ divided_word n pre }

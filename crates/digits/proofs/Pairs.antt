@@ -1,7 +1,7 @@
 -- Bytes that are read pair by pair. Assumes nothing.
-use Rattle.std.proofs.Common.{◌≡◌, ℕ, ◌<◌, ◌≤◌, min, List, [], ◌∷◌, ◌++◌, length, Some, None, Option, sym, refl, ap, ◌∙◌, arith}
+use Rattle.std.proofs.Common.{◌≡◌, ℕ, ◌+◌, ◌*◌, ◌<◌, ◌≤◌, min, List, [], ◌∷◌, ◌++◌, length, get_or, drop, Some, None, Option, sym, refl, ap, ◌∙◌, arith}
 use Rattle.std.specs.Option.{option_map}
-use Rattle.std.proofs.lemmas.List.{append_assoc, length-append, nil_from_length}
+use Rattle.std.proofs.lemmas.List.{append_assoc, append-nil, drop_all, drop_more, length-append, nil_from_length}
 use Rattle.digits.specs.Digits.{and_then, hex_pair, pairs}
 
 -- bs was read, and the rest is left
@@ -30,3 +30,28 @@ module _ (all pair rest : List ℕ) (r : Option ℕ) (n : ℕ) (two : n ≡ 2) (
     by : (o : Option (List ℕ)) → with bs (option_map (λ xs. b ∷ xs) o) ≡ with (bs ++ b ∷ []) o
     by None = refl
     by (Some xs) = ap Some (sym (append_assoc bs (b ∷ []) xs))
+
+-- bytes read from pairs by their places
+module _ (bs ws : List ℕ) (i : ℕ) (here : 2 * i + 1 < length ws) where
+  two : drop (2 * i) ws ≡ get_or ws (2 * i) 0 ∷ get_or ws (2 * i + 1) 0 ∷ drop (2 * (i + 1)) ws
+  two =
+      drop_more ws (2 * i) 0 (omega arith)
+      ∙ ap (λ xs. get_or ws (2 * i) 0 ∷ xs) (drop_more ws (2 * i + 1) 0 here ∙ ap (λ n. get_or ws (2 * i + 1) 0 ∷ drop n ws) (omega arith))
+
+  pub pair_more : (b : ℕ) → hex_pair (get_or ws (2 * i) 0) (get_or ws (2 * i + 1) 0) ≡ Some b → with bs (pairs (drop (2 * i) ws)) ≡ with (bs ++ b ∷ []) (pairs (drop (2 * (i + 1)) ws))
+  pair_more b e = rw (two, e) (by (pairs (drop (2 * (i + 1)) ws))) where
+    by : (o : Option (List ℕ)) → with bs (option_map (λ rest. b ∷ rest) o) ≡ with (bs ++ b ∷ []) o
+    by None = refl
+    by (Some xs) = ap Some (sym (append_assoc bs (b ∷ []) xs))
+
+  pub pair_none : hex_pair (get_or ws (2 * i) 0) (get_or ws (2 * i + 1) 0) ≡ None → with bs (pairs (drop (2 * i) ws)) ≡ None
+  pair_none e = rw (two, e) refl
+
+pub read_none : (bs ws : List ℕ) → bs ≡ [] → with bs (pairs (drop (2 * 0) ws)) ≡ pairs ws
+read_none bs ws e = ap (λ xs. with xs (pairs ws)) e ∙ by (pairs ws) where
+  by : (o : Option (List ℕ)) → with [] o ≡ o
+  by None = refl
+  by (Some xs) = refl
+
+pub read_all : (bs ws : List ℕ) (n : ℕ) → length ws ≤ n → with bs (pairs (drop n ws)) ≡ Some bs
+read_all bs ws n h = rw (drop_all n ws h) (ap Some (append-nil bs))

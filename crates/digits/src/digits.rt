@@ -5,6 +5,7 @@ ghost use Rattle.digits.specs.Digits.{added, below, hex_bytes, hex_digit, number
 
 use std::alloc::{AllocError, Global};
 
+// By ranges of bytes: `char::to_digit` would go by way of a `char` and a `u32`.
 pub fn hex_digit(b: u8) -> Option<u8>
     ensures { result ≡ hex_digit b }
 {

@@ -4,9 +4,10 @@ ghost use Rattle.faults.specs.declared.fault.Refusal.TheVariants.{Unread, NoMemo
 ghost use Rattle.faults.specs.Faults.{expected_text, fault_at, fault_text};
 
 use std::alloc::{AllocError, AllocFailed};
+use std::error::Error;
 use std::fmt;
 
-#[derive(Clone, Copy)]
+#[derive(Clone, Copy, Debug)]
 pub enum Expected {
     Name,
     LineKind,
@@ -29,7 +30,7 @@ pub enum Refusal {
 }
 
 // Lines count from 1.
-#[derive(Clone, Copy)]
+#[derive(Clone, Copy, Debug)]
 pub enum Fault {
     Bad { line: usize, expected: Expected },
     Memory,
@@ -103,3 +104,5 @@ impl fmt::Display for Fault {
         }
     }
 }
+
+impl Error for Fault {}

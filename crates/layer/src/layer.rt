@@ -61,6 +61,7 @@ impl<C: Change, B: SpiBus> SpiBus for Layer<C, B> {
 
     ghost idle = { λ s. B.SpiBus.idle s.below };
 
+    // These two loops are the splitter's too: one text for both would be public and ask for short pieces.
     fn write(&mut self, words: &[u8]) {
         for piece in words.chunks(PIECE) {
             self.send(piece);

@@ -7,7 +7,7 @@ use crate::change::Change;
 // The most bytes of a piece.
 pub(crate) const PIECE: usize = 64;
 
-// Places for a piece; those past its end mean nothing.
+// Places for a piece, with no heap; those past its end mean nothing.
 #[derive(Clone, Copy)]
 pub(crate) struct Scratch {
     pub(crate) bytes: [u8; PIECE],
@@ -20,6 +20,7 @@ pub(crate) fn changed_piece<C: Change>(by: &C, piece: &[u8]) -> Scratch
     ensures bytes { take (length piece.now) result.bytes ≡ map (change C.kind) piece.now }
 {
     let mut scratch = Scratch { bytes: [0; PIECE] };
+    // By place, since a proof does not see what is written through a slice of the scratch.
     for (i, byte) in piece.iter().enumerate() {
         scratch.bytes[i] = by.changed(*byte);
     }

@@ -1,6 +1,7 @@
 -- What a relay chain holds and gives back, byte after byte.
 use Rattle.std.proofs.Common.{◌≡◌, ℕ, ◌+◌, ◌<◌, ◌≤◌, List, [], ◌∷◌, ◌++◌, map, length, get_or, take, drop, set, sym, refl, ap, ◌∙◌, add-one, arith}
-use Rattle.std.proofs.lemmas.List.{append_assoc, append-nil, drop-append-le, drop-drop, get_or_append_left, get_or-append_right, get_or-take, length-append, length-drop, length-take-le, set_at}
+use borrow.Rule.Slice.PartMut.{put_mid}
+use Rattle.std.proofs.lemmas.List.{append_assoc, append-nil, drop_all, drop-append-le, drop-drop, get_or_append_left, get_or-append_right, get_or-take, length-append, length-drop, length-take-le, set_at}
 use Rattle.wire.specs.declared.event.Event.TheVariants.{Both}
 use Rattle.wire.specs.Machine.{run}
 use Rattle.wire.proofs.States.{led}
@@ -13,6 +14,11 @@ turned_end (x ∷ xs) n k b e le =
     let l : 1 ≤ length (drop n (x ∷ xs)) = simp length-drop (omega arith) in
     let m : n ≤ length xs = omega arith in
     rw (set_at xs x [] b k (omega arith), drop-append-le n xs, drop-append-le 1 (drop n (x ∷ xs)), drop-drop 1 n (x ∷ xs), add-one)
+
+pub filled_end : (xs ys : List ℕ) (a k : ℕ) → length xs ≡ a + k → put_mid a k xs ys ≡ take a xs ++ ys
+filled_end xs ys a k e =
+    ap (λ (zs : List ℕ). take a xs ++ (ys ++ zs)) (drop_all k (drop a xs) (simp length-drop (omega arith)))
+    ∙ ap (λ (zs : List ℕ). take a xs ++ zs) (append-nil ys)
 
 -- what is sent comes back behind what the chain held
 pub delays : (bs ws : List ℕ) → 0 < length bs → run chain bs (map Both ws) ≡ take (length ws) (bs ++ ws)

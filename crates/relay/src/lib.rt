@@ -51,7 +51,7 @@ impl RelayChain {
         ensures held { IfSome result (λ c. held c.cells ≡ bytes.now) }
     {
         let len = bytes.len();
-        if len < 1 || len > MOST {
+        if !(1..=MOST).contains(&len) {
             return None;
         }
         let first = MOST - len;

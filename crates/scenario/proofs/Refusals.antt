@@ -10,10 +10,13 @@ use Rattle.scenario.specs.Wholes.{ReadAs}
 use Rattle.words.specs.Words.{lines}
 use Rattle.scenario.specs.Wrongs.{NamesFirst, Refuses}
 
+same_err : {A B : Type 0} (a b : B) → ◌≡◌ {A = Result A B} (Err a) (Err b) → a ≡ b
+same_err a b e = cc
+
 module _ (n : ℕ) (s : Sofar) (l : List ℕ) (ls : List (List ℕ)) (k : ℕ) (e : Expected) where
   stops : (v : Reading Sofar) → with_text s l ≡ v → ((u : Sofar) → lines_from (n + 1) u ls ≡ Err (k, e) → Refuses (n + 1) u ls k e) → go_on n v (λ u. lines_from (n + 1) u ls) ≡ Err (k, e) → Refuses n s (l ∷ ls) k e
   stops (Err x) p ih q =
-      let same : ◌≡◌ {A = ℕ × Expected} (n, x) (k, e) = cc in
+      let same = same_err (n, x) (k, e) q in
       let here : k ≡ n = sym (ap (λ (y : ℕ × Expected). y.0) same) in
       record {
         front = [];

@@ -17,6 +17,9 @@ abbrev after : Sofar → List Said → Reading Sofar
 after s [] = Ok s
 after s (m ∷ ms) = read_then (with_said s m) (λ u. after u ms)
 
+same_ok : {A B : Type 0} (a b : A) → ◌≡◌ {A = Result A B} (Ok a) (Ok b) → a ≡ b
+same_ok a b e = cc
+
 -- the lines say some statements, which lead from s to t
 abbrev Heard : Sofar → Reading (List Said) → Sofar → Type 0
 Heard s here t = (ms : List Said) × (here ≡ Ok ms) × (after s ms ≡ Ok t)
@@ -34,7 +37,7 @@ module _ (n : ℕ) (s : Sofar) (ls : List (List ℕ)) (t : Sofar) (ih : (u : Sof
   heard_line (Ok (Some m)) e = heard_said m (with_said s m) refl e
 
 heard : (n : ℕ) (s : Sofar) (ls : List (List ℕ)) (t : Sofar) → lines_from n s ls ≡ Ok t → Heard s (told ls) t
-heard n s [] t e = ([], refl, (cc))
+heard n s [] t e = ([], refl, ap Ok (same_ok s t e))
 heard n s (l ∷ ls) t e = heard_line n s ls t (λ u. heard (n + 1) u ls t) (statement (words (uncommented l))) e
 
 -- what is known, by its parts
@@ -73,7 +76,7 @@ closed g st x =
 
 follows : (g : Option Line) (rate : ℕ) (st : List (ℕ × Act)) (ms : List Said) (t : Sofar) → after (known g rate st) ms ≡ Ok t → Follows g rate st ms t
 follows g rate st [] t e =
-    let same : known g rate st ≡ t = cc in
+    let same = same_ok (known g rate st) t e in
     record {
       ruled = tt;
       line_set = sym (ap (λ (s : Sofar). unwrap_or s.given (board fresh_board)) same) ∙ from_none g;
@@ -103,7 +106,7 @@ tells text x = by (lines_from 1 start (lines text)) refl where
   by (Ok t) p e =
       let h = heard 1 start (lines text) t p in
       let f = follows None 80000000 [] h.0 t h.2 in
-      let same : (unwrap_or t.given (board fresh_board), t.steps) ≡ x = cc in
+      let same = same_ok _ x e in
       record {
         said = h.0;
         lines_say = h.1;

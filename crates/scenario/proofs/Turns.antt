@@ -17,6 +17,10 @@ use Rattle.scenario.specs.Scenarios.{Sofar, finished, go_on, lines_from, start, 
 use Rattle.scenario.specs.Wholes.{ReadAs}
 use Rattle.words.specs.Words.{lines}
 
+module _ (n : ℕ) (s : Sofar) (l : List ℕ) (ls : List (List ℕ)) where
+  pub line_read : (t : Sofar) → with_text s l ≡ Ok t → lines_from n s (l ∷ ls) ≡ lines_from (n + 1) t ls
+  line_read t e = ap (λ (m : Reading Sofar). go_on n m (λ u. lines_from (n + 1) u ls)) e
+
 -- after k of the lines l comes next, and i is its place
 pub record Next (ls : List (List ℕ)) (k i : ℕ) (l : List ℕ) : Type 0 where
   pub number : i ≡ k
@@ -44,8 +48,8 @@ module _ (ls : List (List ℕ)) (k i : ℕ) (l : List ℕ) (s : Sofar) (next : N
   opened : (m : Reading Sofar) → with_text s l ≡ m → lines_from (k + 1) s (drop k ls) ≡ go_on (k + 1) m (λ u. lines_from (k + 1 + 1) u (drop (k + 1) ls))
   opened m e = ap (lines_from (k + 1) s) next.cut ∙ ap (λ (v : Reading Sofar). go_on (k + 1) v (λ u. lines_from (k + 1 + 1) u (drop (k + 1) ls))) e
 
-  pub line_read : (t : Sofar) → with_text s l ≡ Ok t → lines_from (k + 1) s (drop k ls) ≡ lines_from (k + 1 + 1) t (drop (k + 1) ls)
-  line_read t e = opened (Ok t) e
+  pub next_read : (t : Sofar) → with_text s l ≡ Ok t → lines_from (k + 1) s (drop k ls) ≡ lines_from (k + 1 + 1) t (drop (k + 1) ls)
+  next_read t e = ap (lines_from (k + 1) s) next.cut ∙ line_read (k + 1) s l (drop (k + 1) ls) t e
 
   line_refused : (x : Expected) → with_text s l ≡ Err x → lines_from (k + 1) s (drop k ls) ≡ Err (i + 1, x)
   line_refused x e = opened (Err x) e ∙ ap (λ (n : ℕ). Err (n + 1, x)) (sym next.number)

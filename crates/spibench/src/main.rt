@@ -2,7 +2,7 @@
 
 #![tactic(auto)]
 
-use anyhow::{Context, anyhow, ensure};
+use anyhow::{Context, ensure};
 use bench::options::Options;
 use bench::setup::hang;
 use bench::step::{is_accepted, take_step};
@@ -28,7 +28,7 @@ fn main(rt: HostRuntime) -> anyhow::Result<ExitCode> {
 fn run(rt: &HostRuntime) -> anyhow::Result<()> {
     let Options { state, file } = read_options(rt)?;
     let text = read_text(rt, file)?;
-    let scenario = read_scenario(rt.alloc(), text.as_slice()).map_err(|fault| anyhow!(fault))?;
+    let scenario = read_scenario(rt.alloc(), text.as_slice())?;
     perform(rt, state, scenario)
 }
 

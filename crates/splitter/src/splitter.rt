@@ -35,6 +35,7 @@ impl<B: SpiBus> SpiBus for Splitter<B> {
 
     ghost idle = { λ s. B.SpiBus.idle s.port.below };
 
+    // These two loops are a layer's too: one text for both would be public and ask for short pieces.
     fn write(&mut self, words: &[u8]) {
         for piece in words.chunks(self.port.most()) {
             self.port.send(piece);

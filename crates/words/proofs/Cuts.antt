@@ -1,8 +1,8 @@
 -- Where a line is cut into its words. Assumes nothing.
-use Rattle.std.proofs.Common.{◌≡◌, ℕ, zero, suc, ◌+◌, ◌<◌, Bool, true, false, not, cond, eqb, ltb, List, [], ◌∷◌, ◌++◌, length, get_or, take, drop, Some, None, sym, refl, ap, ◌∙◌, arith}
+use Rattle.std.proofs.Common.{◌≡◌, ℕ, zero, suc, ◌+◌, ◌<◌, ◌≤◌, Bool, true, false, not, cond, eqb, ltb, List, [], ◌∷◌, ◌++◌, length, get_or, take, drop, Some, None, sym, refl, ap, ◌∙◌, arith}
 use Rattle.std.specs.List.{position_or_len}
 use Rattle.std.specs.Option.{unwrap_or}
-use Rattle.std.proofs.lemmas.List.{append_assoc, append-nil}
+use Rattle.std.proofs.lemmas.List.{drop_more, drop_all, take_more, take_all, append_assoc, append-nil}
 use Rattle.std.proofs.lemmas.List.Sums.{prefix_len-le-length}
 use Rattle.std.proofs.lemmas.Bool.{eq-eqb, ne_eqb, cond-true, cond-false}
 use Rattle.std.proofs.lemmas.Bool.Decides.{nat_tests}
@@ -25,6 +25,33 @@ before_is p (b ∷ bs) = by (p b) (before_is p bs) where
 
 pub place : (p : ℕ → Bool) (bs : List ℕ) → unwrap_or (cond (ltb (position_or_len p bs) (length bs)) (Some (position_or_len p bs)) None) (length bs) ≡ position_or_len p bs
 place p bs = grind (arith, prefix_len-le-length, nat_tests)
+
+-- what stands before a byte, and behind blanks, by places
+module _ (p : ℕ → Bool) (bs : List ℕ) (i : ℕ) (sofar : take i bs ++ before p (drop i bs) ≡ before p bs) where
+  pub before_stop : i < length bs → p (get_or bs i 0) ≡ true → take i bs ≡ before p bs
+  before_stop here e =
+      sym (append-nil (take i bs)) ∙ ap (λ xs. take i bs ++ xs) (sym (ap (before p) (drop_more bs i 0 here) ∙ cond-true (p (get_or bs i 0)) [] _ e)) ∙ sofar
+
+  pub before_more : i < length bs → p (get_or bs i 0) ≡ false → take (i + 1) bs ++ before p (drop (i + 1) bs) ≡ before p bs
+  before_more here e =
+      ap (λ xs. xs ++ before p (drop (i + 1) bs)) (take_more bs i 0 here)
+      ∙ append_assoc (take i bs) (get_or bs i 0 ∷ []) _
+      ∙ ap (λ xs. take i bs ++ xs) (sym (ap (before p) (drop_more bs i 0 here) ∙ cond-false (p (get_or bs i 0)) [] _ e))
+      ∙ sofar
+
+  pub before_all : length bs ≤ i → bs ≡ before p bs
+  before_all h = sym (append-nil bs) ∙ sym (ap (λ xs. xs ++ []) (take_all i bs h)) ∙ sym (ap (λ xs. take i bs ++ before p xs) (drop_all i bs h)) ∙ sofar
+
+module _ (bs : List ℕ) (i : ℕ) (sofar : unblanked (drop i bs) ≡ unblanked bs) where
+  pub unblanked_stop : i < length bs → blank (get_or bs i 0) ≡ false → drop i bs ≡ unblanked bs
+  unblanked_stop here e =
+      drop_more bs i 0 here ∙ sym (ap unblanked (drop_more bs i 0 here) ∙ cond-false (blank (get_or bs i 0)) _ _ e) ∙ sofar
+
+  pub unblanked_more : i < length bs → blank (get_or bs i 0) ≡ true → unblanked (drop (i + 1) bs) ≡ unblanked bs
+  unblanked_more here e = sym (ap unblanked (drop_more bs i 0 here) ∙ cond-true (blank (get_or bs i 0)) _ _ e) ∙ sofar
+
+  pub unblanked_all : length bs ≤ i → [] ≡ unblanked bs
+  unblanked_all h = sym (ap unblanked (drop_all i bs h)) ∙ sofar
 
 -- a CR at the end, and none
 pub carried : (line : List ℕ) (k : ℕ) → length line ≡ k + 1 → get_or line k 0 ≡ 13 → take k line ≡ uncarried line
@@ -84,6 +111,14 @@ ends (b ∷ bs) h =
     let cons = sym (cond-false (blank b) [] (b ∷ before blank bs) e) ∙ sym (ap (before blank) same) ∙ h in
     let z : ◌≡◌ {A = ℕ} 0 1 = cc in absurd (omega arith))
 
+module _ (bs : List ℕ) where
+  pub no_word : before blank (unblanked bs) ≡ [] → words bs ≡ []
+  no_word h = words-unblanked bs ∙ ap words (ends bs h)
+
+  pub one_word : (w : List ℕ) → 0 < length w → w ≡ before blank (unblanked bs) → words bs ≡ w ∷ words (drop (length w) (unblanked bs))
+  one_word [] pos e = absurd (omega arith)
+  one_word (b ∷ w) pos e = words-unblanked bs ∙ split [] (unblanked bs) ∙ sym (ap (λ xs. begun xs ++ words (drop (length xs) (unblanked bs))) e)
+
 -- the blanks at the front of bs, the word w behind them, and what is left
 module _ (bs blanks rest w more : List ℕ) (passed : blanks ≡ before (λ b. not (blank b)) bs) (then : rest ≡ drop (length blanks) bs) (front : w ≡ before blank rest) (back : more ≡ drop (length w) rest) where
   rest_is : rest ≡ unblanked bs
@@ -95,18 +130,15 @@ module _ (bs blanks rest w more : List ℕ) (passed : blanks ≡ before (λ b. n
   more_is : more ≡ drop (length w) (unblanked bs)
   more_is = back ∙ ap (drop (length w)) rest_is
 
-  pub no_word : w ≡ [] → words bs ≡ []
-  no_word e = words-unblanked bs ∙ ap words (ends bs (sym word_is ∙ e))
+  pub no_more : w ≡ [] → words bs ≡ []
+  no_more e = no_word bs (sym word_is ∙ e)
 
-  pub one_word : 0 < length w → words bs ≡ w ∷ words more
-  one_word some = by w some word_is ∙ ap (λ xs. w ∷ words xs) (sym more_is) where
-    by : (w : List ℕ) → 0 < length w → w ≡ before blank (unblanked bs) → words bs ≡ w ∷ words (drop (length w) (unblanked bs))
-    by [] some e = absurd (omega arith)
-    by (b ∷ w) some e = words-unblanked bs ∙ split [] (unblanked bs) ∙ sym (ap (λ xs. begun xs ++ words (drop (length xs) (unblanked bs))) e)
+  pub next_of : 0 < length w → words bs ≡ w ∷ words more
+  next_of some = one_word bs w some word_is ∙ ap (λ xs. w ∷ words xs) (sym more_is)
 
   pub none_left : w ≡ [] → words more ≡ drop 1 (words bs)
   none_left e =
-      ap words (more_is ∙ ap (λ xs. drop (length xs) (unblanked bs)) e ∙ ends bs (sym word_is ∙ e)) ∙ sym (ap (drop 1) (no_word e))
+      ap words (more_is ∙ ap (λ xs. drop (length xs) (unblanked bs)) e ∙ ends bs (sym word_is ∙ e)) ∙ sym (ap (drop 1) (no_more e))
 
   pub left : 0 < length w → words more ≡ drop 1 (words bs)
-  left some = sym (ap (drop 1) (one_word some))
+  left some = sym (ap (drop 1) (next_of some))

@@ -9,6 +9,7 @@ ghost use Rattle.words.specs.Words.{before, blank, Computes, uncarried, uncommen
 use faults::fault::Expected;
 use std::marker::Model;
 
+// Four words of four meanings.
 pub type Four<'a> = (&'a [u8], &'a [u8], &'a [u8], &'a [u8]);
 
 // What is left of a line.
@@ -101,6 +102,7 @@ impl<'a> Words<'a> {
         }
     }
 
+    // This and `two` give words, and no array of them to be taken apart: so no one call for every number.
     pub fn one(&mut self) -> Result<&'a [u8], Expected>
         ensures word { ok_map (λ x. x.now) result ≡ one self.old }
         ensures left { self.new ≡ drop 2 self.old }

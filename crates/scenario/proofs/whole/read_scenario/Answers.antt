@@ -7,7 +7,7 @@ use Rattle.words.specs.Words.{lines}
 use Rattle.scenario.proofs.Ends.{YieldsList-from_lines}
 use Rattle.scenario.proofs.Refusals.{names_first}
 use Rattle.scenario.proofs.Tellings.{tells}
-use Rattle.scenario.proofs.Turns.{all_read, line_read, next_line, refused}
+use Rattle.scenario.proofs.Turns.{all_read, next_read, next_line, refused}
 use Rattle.scenario.proofs.whole.read_scenario.Goals as goal
 
 pub loop-i-preserved : goal.loop-i-preserved
@@ -15,7 +15,7 @@ loop-i-preserved c =
     let text = c.args.text.now in
     let road = YieldsList-from_lines _ text (cc) (cc) (cc) (cc) (λ x r q k. search (rules, tests)) in
     let next = next_line text road c.loop-i.yielded _ c.loop-i.yielded_by _ _ _ c.in-Some.is c.next.ensures.steps in
-    let more = line_read (lines text) (length c.loop-i.yielded) c.in-Some.i c.in-Some.line.now c.loop-i.reader next c.read_line.new.self (search rules) in
+    let more = next_read (lines text) (length c.loop-i.yielded) c.in-Some.i c.in-Some.line.now c.loop-i.reader next c.read_line.new.self (search rules) in
     rw (length_push c.loop-i.yielded (c.in-Some.i, c.in-Some.line)) (sym more ∙ c.loop-i.invariant)
 
 pub returns-in_err-map_err-clause-reads : goal.returns-in_err-map_err-clause-reads

@@ -1,7 +1,7 @@
 use Rattle.std.proofs.Common.{◌<◌, not, length, drop, sym, ap, ◌∙◌, arith, rules, true-eqb, false-eqb}
 use Rattle.std.proofs.lemmas.List.{nil_from_length}
 use Rattle.words.specs.Words.{blank}
-use Rattle.words.proofs.Cuts.{left, no_word, none_left, one_word}
+use Rattle.words.proofs.Cuts.{left, next_of, no_more, none_left}
 use Rattle.words.proofs.words.Words.next_word.Goals as goal
 
 pub returns-then-is_empty : goal.returns-then-is_empty
@@ -12,7 +12,7 @@ returns-then-is_empty c =
     let word = cut.ensures.front blank (λ b r e. search rules) in
     let none = nil_from_length cut.result.0.now (true-eqb _ 0 c.if-is_empty.ensures) in
     record {
-      word = sym c.self.view_is ∙ no_word _ _ _ _ _ blanks skip.ensures.back word cut.ensures.back none;
+      word = sym c.self.view_is ∙ no_more _ _ _ _ _ blanks skip.ensures.back word cut.ensures.back none;
       left = none_left _ _ _ _ _ blanks skip.ensures.back word cut.ensures.back none ∙ ap (drop 1) c.self.view_is;
     }
 
@@ -24,6 +24,6 @@ returns c =
     let word = cut.ensures.front blank (λ b r e. search rules) in
     let some : 0 < length cut.result.0.now = omega (arith, false-eqb _ 0 c.if-is_empty.ensures) in
     record {
-      word = sym c.self.view_is ∙ one_word _ _ _ _ _ blanks skip.ensures.back word cut.ensures.back some;
+      word = sym c.self.view_is ∙ next_of _ _ _ _ _ blanks skip.ensures.back word cut.ensures.back some;
       left = left _ _ _ _ _ blanks skip.ensures.back word cut.ensures.back some ∙ ap (drop 1) c.self.view_is;
     }
