@@ -80,7 +80,8 @@ impl Config {
     }
 
     pub fn with_frequency(self, frequency: u32) -> Config
-        ensures { result ≡ with_frequency self frequency }
+        ensures value { result ≡ with_frequency self frequency }
+        ensures range { in_range result.source ≡ true }
     {
         let mut settings = self.settings;
         settings.frequency = frequency;
@@ -89,21 +90,24 @@ impl Config {
     }
 
     pub fn with_mode(mut self, mode: Mode) -> Config
-        ensures { result ≡ with_mode self mode }
+        ensures value { result ≡ with_mode self mode }
+        ensures range { in_range result.source ≡ true }
     {
         self.settings.mode = mode;
         self
     }
 
     pub fn with_read_bit_order(mut self, read_bit_order: BitOrder) -> Config
-        ensures { result ≡ with_reading self read_bit_order }
+        ensures value { result ≡ with_reading self read_bit_order }
+        ensures range { in_range result.source ≡ true }
     {
         self.settings.read_bit_order = read_bit_order;
         self
     }
 
     pub fn with_write_bit_order(mut self, write_bit_order: BitOrder) -> Config
-        ensures { result ≡ with_writing self write_bit_order }
+        ensures value { result ≡ with_writing self write_bit_order }
+        ensures range { in_range result.source ≡ true }
     {
         self.settings.write_bit_order = write_bit_order;
         self

@@ -1,5 +1,5 @@
 -- Bytes that are read pair by pair. Assumes nothing.
-use Rattle.std.proofs.Common.{◌≡◌, ℕ, ◌+◌, ◌*◌, ◌<◌, ◌≤◌, min, List, [], ◌∷◌, ◌++◌, length, get_or, drop, Some, None, Option, sym, refl, ap, ◌∙◌, arith}
+use Rattle.std.proofs.Common.{◌≡◌, ℕ, ◌+◌, ◌*◌, ◌%◌, ◌<◌, ◌≤◌, min, List, [], ◌∷◌, ◌++◌, length, get_or, drop, Some, None, Option, sym, refl, ap, ◌∙◌, arith}
 use Rattle.std.specs.Option.{option_map}
 use Rattle.std.proofs.lemmas.List.{append_assoc, append-nil, drop_all, drop_more, length-append, nil_from_length}
 use Rattle.digits.specs.Digits.{and_then, hex_pair, pairs}
@@ -7,6 +7,17 @@ use Rattle.digits.specs.Digits.{and_then, hex_pair, pairs}
 -- bs was read, and the rest is left
 abbrev pub with : List ℕ → Option (List ℕ) → Option (List ℕ)
 with bs o = option_map (λ rest. bs ++ rest) o
+
+nothing : (o : Option ℕ) → and_then {B = List ℕ} o (λ b. None) ≡ None
+nothing None = refl
+nothing (Some b) = refl
+
+pub odd : (ws : List ℕ) → length ws % 2 ≡ 1 → pairs ws ≡ None
+odd [] h = absurd (omega arith)
+odd (a ∷ []) h = refl
+odd (a ∷ b ∷ ws) h =
+    let rest : pairs ws ≡ None = odd ws (omega arith) in
+    ap (λ o. and_then (hex_pair a b) (λ x. option_map (λ (xs : List ℕ). x ∷ xs) o)) rest ∙ nothing (hex_pair a b)
 
 -- the first pair, of which r was read, and what follows it
 module _ (all pair rest : List ℕ) (r : Option ℕ) (n : ℕ) (two : n ≡ 2) (parts : all ≡ pair ++ rest) (size : length pair ≡ min n (length all)) (some : 0 < length all) (read : 0 < length pair → length pair ≤ 2 → option_map (λ b. b ∷ []) r ≡ pairs pair) where

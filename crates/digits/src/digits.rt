@@ -61,6 +61,9 @@ pub fn read_number(word: &[u8]) -> Option<u32>
 fn read_pairs(heap: Global, word: &[u8]) -> Result<Option<Vec<u8>>, AllocError>
     ensures { IfOk result (λ o. option_map vec_items o ≡ pairs word.now) }
 {
+    if word.len() % 2 != 0 {
+        return Ok(None);
+    }
     let mut bytes = Vec::new(heap);
     for pair in word.chunks(2) {
         let Some(byte) = read_pair(pair) else {

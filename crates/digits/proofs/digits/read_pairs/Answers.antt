@@ -1,8 +1,11 @@
-use Rattle.std.proofs.Common.{vec_items, sym, ap, ◌∙◌}
+use Rattle.std.proofs.Common.{vec_items, sym, ap, ◌∙◌, arith}
 use Rattle.std.specs.Slice.Iter.{chunks_rest}
 use Rattle.digits.specs.Digits.{pairs}
-use Rattle.digits.proofs.Pairs.{more, with}
+use Rattle.digits.proofs.Pairs.{more, odd, with}
 use Rattle.digits.proofs.digits.read_pairs.Goals as goal
+
+pub returns-then-word-ne0 : goal.returns-then-word-ne0
+returns-then-word-ne0 c = sym (odd c.args.word.now (omega arith))
 
 pub loop-pair-preserved : goal.loop-pair-preserved
 loop-pair-preserved c =
