@@ -12,7 +12,8 @@ pub struct Clocking {
     pub dividers: Option<(u32, u32)>,
 }
 
-// The clock word of a source rate and a frequency that a driver would take, in Hz.
+// The clock word of a source rate and a frequency that a driver would take, in Hz. Two plain numbers: a struct of the two
+// would be made here to be taken apart.
 pub fn ask_clock(source: u32, frequency: u32) -> Result<Clocking, ConfigError>
     ensures asked { Asked source frequency result }
 {

@@ -13,18 +13,25 @@ pub(crate) struct Scratch {
     pub(crate) bytes: [u8; PIECE],
 }
 
+// Changes each byte, one after another.
+fn change_each<C: Change>(by: &C, bytes: &mut [u8])
+    ensures { bytes.new ≡ map (change C.kind) bytes.old }
+{
+    for byte in bytes.iter_mut() {
+        *byte = by.changed(*byte);
+    }
+}
+
 // Each byte of a piece, changed.
 pub(crate) fn changed_piece<C: Change>(by: &C, piece: &[u8]) -> Scratch
     requires { length piece.now ≤ PIECE }
     ensures room { length result.bytes ≡ PIECE }
     ensures bytes { take (length piece.now) result.bytes ≡ map (change C.kind) piece.now }
 {
-    let mut scratch = Scratch { bytes: [0; PIECE] };
-    // By place, since a proof does not see what is written through a slice of the scratch.
-    for (i, byte) in piece.iter().enumerate() {
-        scratch.bytes[i] = by.changed(*byte);
-    }
-    scratch
+    let mut bytes = [0; PIECE];
+    bytes[..piece.len()].copy_from_slice(piece);
+    change_each(by, &mut bytes[..piece.len()]);
+    Scratch { bytes }
 }
 
 // Writes as many bytes of `from` as the piece has places, each changed, to their places.
@@ -33,7 +40,5 @@ pub(crate) fn hand_back<C: Change>(by: &C, from: &[u8], piece: &mut [u8])
     ensures bytes { piece.new ≡ map (change C.kind) (take (length piece.old) from.now) }
 {
     piece.copy_from_slice(&from[..piece.len()]);
-    for place in piece.iter_mut() {
-        *place = by.changed(*place);
-    }
+    change_each(by, piece);
 }

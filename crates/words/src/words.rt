@@ -102,7 +102,7 @@ impl<'a> Words<'a> {
         }
     }
 
-    // This and `two` give words, and no array of them to be taken apart: so no one call for every number.
+    // This and `two` answer as the rules of statements do, by a word and a pair, which clauses above cite as they are.
     pub fn one(&mut self) -> Result<&'a [u8], Expected>
         ensures word { ok_map (λ x. x.now) result ≡ one self.old }
         ensures left { self.new ≡ drop 2 self.old }
