@@ -36,7 +36,7 @@ impl<C: Drop, B> Layer<C, B> {
 impl<C: Change, B: SpiBus> Layer<C, B> {
     // Replaces each byte of a piece by the answer to it. `read` below would send a pad that is not changed.
     fn exchange(&mut self, piece: &mut [u8])
-        requires { length piece.old ≤ PIECE }
+        requires { length piece.old ≤ 64 }
         ensures ran { Ran (changed C.Change.kind (B.SpiBus.answers self.old.below)) piece.old piece.new (changed C.Change.kind (B.SpiBus.answers self.new.below)) }
     {
         let mut bytes = changed_piece(&self.change, piece).bytes;
@@ -46,7 +46,7 @@ impl<C: Change, B: SpiBus> Layer<C, B> {
 
     // Sends each byte of a piece, and drops what comes back.
     fn send(&mut self, piece: &[u8])
-        requires { length piece.now ≤ PIECE }
+        requires { length piece.now ≤ 64 }
         ensures left { changed C.Change.kind (B.SpiBus.answers self.new.below) ≡ after (changed C.Change.kind (B.SpiBus.answers self.old.below)) piece.now }
     {
         let bytes = changed_piece(&self.change, piece).bytes;

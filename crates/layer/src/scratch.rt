@@ -13,25 +13,17 @@ pub(crate) struct Scratch {
     pub(crate) bytes: [u8; PIECE],
 }
 
-// Changes each byte, one after another.
-fn change_each<C: Change>(by: &C, bytes: &mut [u8])
-    ensures { bytes.new ≡ map (change C.kind) bytes.old }
-{
-    for byte in bytes.iter_mut() {
-        *byte = by.changed(*byte);
-    }
-}
-
-// Each byte of a piece, changed.
+// Each byte of a piece, changed, one after another.
 pub(crate) fn changed_piece<C: Change>(by: &C, piece: &[u8]) -> Scratch
-    requires { length piece.now ≤ PIECE }
-    ensures room { length result.bytes ≡ PIECE }
+    requires { length piece.now ≤ 64 }
+    ensures room { length result.bytes ≡ 64 }
     ensures bytes { take (length piece.now) result.bytes ≡ map (change C.kind) piece.now }
 {
-    let mut bytes = [0; PIECE];
-    bytes[..piece.len()].copy_from_slice(piece);
-    change_each(by, &mut bytes[..piece.len()]);
-    Scratch { bytes }
+    let mut scratch = Scratch { bytes: [0; PIECE] };
+    for (i, byte) in piece.iter().enumerate() {
+        scratch.bytes[i] = by.changed(*byte);
+    }
+    scratch
 }
 
 // Writes as many bytes of `from` as the piece has places, each changed, to their places.
@@ -39,6 +31,7 @@ pub(crate) fn hand_back<C: Change>(by: &C, from: &[u8], piece: &mut [u8])
     requires { length piece.old ≤ length from.now }
     ensures bytes { piece.new ≡ map (change C.kind) (take (length piece.old) from.now) }
 {
-    piece.copy_from_slice(&from[..piece.len()]);
-    change_each(by, piece);
+    for (i, byte) in from[..piece.len()].iter().enumerate() {
+        piece[i] = by.changed(*byte);
+    }
 }

@@ -6,7 +6,7 @@ use Rattle.layer.proofs.layer.LayerSpiBus.transfer_in_place.Goals as goal
 pub loop-done-preserved : goal.loop-done-preserved
 loop-done-preserved g c =
     let causal = changed_causal g.C.Change.kind _ (g.B.SpiBus.causal c.loop-done.self.below) in
-    piece_more causal c.loop-done.words c.loop-done.done c.loop-done.invariant 64 _ (omega arith) (omega arith) c.exchange.ensures.ran
+    piece_more causal c.loop-done.words c.loop-done.done c.loop-done.invariant _ _ (omega arith) (omega arith) c.exchange.ensures.ran
 
 pub returns : goal.returns
 returns g c =
