@@ -42,10 +42,10 @@ fn read_digits(base: u32, digits: &[u8]) -> Option<u32>
 fn read_pair(pair: &[u8]) -> Option<u8>
     ensures { 0 < length pair.now → length pair.now ≤ 2 → option_map (λ b. b ∷ []) result ≡ pairs pair.now }
 {
-    let [high, low] = pair else {
+    let &[high, low] = pair else {
         return None;
     };
-    Some(16 * hex_digit(*high)? + hex_digit(*low)?)
+    Some(16 * hex_digit(high)? + hex_digit(low)?)
 }
 
 pub fn read_number(word: &[u8]) -> Option<u32>
@@ -65,7 +65,7 @@ fn read_pairs(heap: Global, word: &[u8]) -> Result<Option<Vec<u8>>, AllocError>
         return Ok(None);
     }
     let mut bytes = Vec::new(heap);
-    for pair in word.chunks(2) {
+    for pair in word.chunks_exact(2) {
         let Some(byte) = read_pair(pair) else {
             return Ok(None);
         };
