@@ -58,18 +58,21 @@ fn perform(rt: &HostRuntime, state: bool, scenario: Scenario) -> anyhow::Result<
     for step in &steps {
         perform_step(rt, &mut wire, &mut totals, step)?;
         if state {
-            print_line(rt, wire.line(), "  ")?;
+            let text = line_text(&wire, "  ");
+            println!(rt; "{text}")?;
         }
     }
-    print_line(rt, wire.line(), "")?;
-    println!(rt; "{totals}")?;
+    // One write: a reader that gets the state gets the counts.
+    let text = line_text(&wire, "");
+    println!(rt; "{text}\n{totals}")?;
     Ok(())
 }
 
-fn print_line(rt: &HostRuntime, line: &AnyLine, indent: &str) -> anyhow::Result<()> {
-    let text = LineText { line, indent };
-    println!(rt; "{text}")?;
-    Ok(())
+fn line_text<'a>(wire: &'a Recorder<AnyLine>, indent: &'a str) -> LineText<'a> {
+    LineText {
+        line: wire.line(),
+        indent,
+    }
 }
 
 fn perform_step(
