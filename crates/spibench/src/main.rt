@@ -2,6 +2,8 @@
 
 #![tactic(auto)]
 
+ghost use Rattle.std.specs.Prelude.{◌≡◌};
+
 use anyhow::{Context, ensure};
 use bench::options::Options;
 use bench::setup::hang;
@@ -68,7 +70,11 @@ fn perform(rt: &HostRuntime, state: bool, scenario: Scenario) -> anyhow::Result<
     Ok(())
 }
 
-fn line_text<'a>(wire: &'a Recorder<AnyLine>, indent: &'a str) -> LineText<'a> {
+// The line's state now, each row indented.
+fn line_text<'a>(wire: &'a Recorder<AnyLine>, indent: &'a str) -> LineText<'a>
+    ensures line { result.line.now ≡ wire.now.line }
+    ensures indent { result.indent.now ≡ indent.now }
+{
     LineText {
         line: wire.line(),
         indent,
